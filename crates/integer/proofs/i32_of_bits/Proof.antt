@@ -1,0 +1,47 @@
+-- `integer::i32_of_bits` meets its contract. Assumes nothing.
+use borrow.Author.Needs.{needs}
+use mathlib.Core.Path.{sym, ap, _∙_}
+use native.Mathlib.Omega.{arith}
+use lib.IntN.{negsuc}
+use mir.Syntax.{w32, w64}
+use mir.Facts.{toZ-ofZ}
+use Rattle.integer.proofs.TwosComplement.{toZ-high}
+use Rattle.integer.proofs.i32_of_bits.Statement.{statement}
+use Rattle.integer.proofs.i32_of_bits.Tie as tie
+
+cast-result : tie.Need-cast-result
+cast-result c = search needs
+
+sub-below-zero : tie.Need-sub-below-zero
+sub-below-zero c = search needs
+
+cast-below-zero : tie.Need-cast-below-zero
+cast-below-zero c = search needs
+
+below-zero-requires : tie.Need-below-zero-requires
+below-zero-requires c κs = search needs
+
+cast-result-2 : tie.Need-cast-result-2
+cast-result-2 c =
+    rw (toZ-ofZ {w = w64} {z = c .below-zero .result} (record { sfits = c .below-zero .ok }), c .below-zero .ensures)
+    (record { sfits = omega arith })
+
+returns : tie.Need-returns
+returns c = search needs
+
+returns-2 : tie.Need-returns-2
+returns-2 c =
+    toZ-ofZ (cast-result-2 c) ∙ toZ-ofZ (record { sfits = c .below-zero .ok }) ∙ c .below-zero .ensures
+    ∙ ap negsuc (omega arith) ∙ sym (toZ-high w32 _ (c .before .if1 .left))
+
+pub i32-of-bits-spec : {M : Type 1} → statement M
+i32-of-bits-spec =
+    tie.close
+    (tie.spec
+    cast-result
+    sub-below-zero
+    cast-below-zero
+    below-zero-requires
+    cast-result-2
+    returns
+    returns-2)

@@ -1,0 +1,126 @@
+// Whole numbers: division rounded down, magnitude, two's-complement bits, the whole square root.
+ghost use mathlib.Core.Path.{_≡_};
+ghost use Prim.Native.Nat.{_<_, _≤_, _^_};
+ghost use lib.IntN.{pos, negsuc, natAbs, _*ℤ_};
+ghost use lib.Signed.{mag, quotZ};
+ghost use mir.Syntax.{w32, w64};
+ghost use mir.Val.{ofZ, toZ};
+ghost use Rattle.integer.specs.Bound.{Within};
+ghost use Rattle.integer.specs.Division.{FloorDivided};
+ghost use Rattle.integer.specs.Root.{root};
+
+// x where x is not negative, else -1 - x.
+fn ones_magnitude(x: i64) -> u64
+    ensures { λ r. ⌜ (r ≡ mag x) × (r < 2 ^ 63) ⌝ }
+{
+    if x < 0 { (-1 - x) as u64 } else { x as u64 }
+}
+
+// -1 - m.
+fn below_zero(m: u64) -> i64
+    requires { ⌜ m < 2 ^ 63 ⌝ }
+    ensures { λ r. ⌜ r ≡ negsuc m ⌝ }
+{
+    -1 - (m as i64)
+}
+
+// The magnitude |x|.
+pub fn magnitude(x: i64) -> u64
+    ensures { λ r. ⌜ r ≡ natAbs x ⌝ }
+{
+    let m = ones_magnitude(x);
+    if x < 0 { m + 1 } else { m }
+}
+
+pub struct FloorQuotient {
+    pub quotient: i64,
+    pub remainder: u64,
+}
+
+// n / d down, with its remainder, which is never negative. Every caller's divisor is a numeral, so
+// that the `requires` is no question for it: by 0 there is no quotient.
+pub fn floor_div(n: i64, d: u64) -> FloorQuotient
+    requires { ⌜ 0 < d ⌝ }
+    ensures { λ r. ⌜ FloorDivided n d r ⌝ }
+{
+    let m = ones_magnitude(n);
+    if n < 0 {
+        FloorQuotient {
+            quotient: below_zero(m / d),
+            remainder: d - 1 - m % d,
+        }
+    } else {
+        FloorQuotient {
+            quotient: (m / d) as i64,
+            remainder: m % d,
+        }
+    }
+}
+
+// The bits of x in two's complement.
+pub fn bits_of_i64(x: i64) -> u64
+    ensures { λ r. ⌜ r ≡ ofZ w64 x ⌝ }
+{
+    let m = ones_magnitude(x);
+    if x < 0 { 18446744073709551615 - m } else { m }
+}
+
+// The number whose bits in two's complement are b.
+pub fn i64_of_bits(b: u64) -> i64
+    ensures { λ r. ⌜ r ≡ toZ w64 b ⌝ }
+{
+    if b < 0x8000_0000_0000_0000 {
+        b as i64
+    } else {
+        below_zero(18446744073709551615 - b)
+    }
+}
+
+// The bits of x in two's complement.
+pub fn bits_of_i32(x: i32) -> u32
+    ensures { λ r. ⌜ r ≡ ofZ w32 x ⌝ }
+{
+    let m = ones_magnitude(x as i64);
+    if x < 0 {
+        4294967295 - (m as u32)
+    } else {
+        m as u32
+    }
+}
+
+// The number whose bits in two's complement are b.
+pub fn i32_of_bits(b: u32) -> i32
+    ensures { λ r. ⌜ r ≡ toZ w32 b ⌝ }
+{
+    if b < 0x8000_0000 {
+        b as i32
+    } else {
+        below_zero((4294967295 - b) as u64) as i32
+    }
+}
+
+// The whole square root, down, by halving from 0 and 2^32.
+pub fn square_root(n: u64) -> u64
+    ensures { λ r. ⌜ (r ≡ root n) × (r < 2 ^ 32) ⌝ }
+{
+    let mut low: u64 = 0;
+    let mut high: u64 = 4294967296;
+    while low + 1 < high {
+        let middle = (low + high) / 2;
+        if middle * middle <= n {
+            low = middle;
+        } else {
+            high = middle;
+        }
+    }
+    low
+}
+
+// x·y / 2^30, cut toward zero: the product of a length or a part of one, in units of 2^-30, with
+// another. Each caller's bounds keep the product within 2^62.
+pub fn scaled(x: i64, y: i64) -> i64
+    requires { ⌜ Within (2 ^ 62) (x *ℤ y) ⌝ }
+    ensures { λ r. ⌜ r ≡ quotZ (x *ℤ y) (pos (2 ^ 30)) ⌝ }
+{
+    x * y / 1_073_741_824
+}

@@ -1,0 +1,34 @@
+-- The number of each refusal: document 01, "When the build says no". Assumes nothing.
+use Prim.Native.Nat.{ℕ}
+use Rattle.refusal.specs.declared.Refusal.{Refusal}
+use Rattle.refusal.specs.declared.Refusal.the-variants.{Eccentricity, SemiMajorAxis, PerigeeDistance, Inclination, MeanMotion, DriftRate, EpochRevolution, Time, NotConverged, TelemetryLength, OutputLength, FileLength, LabelRules, ShadeRange}
+
+abbrev pub numberOf : Refusal → ℕ
+-- e above 9,000,000
+numberOf Eccentricity = 1
+-- a outside 6,600,000 to 100,000,000
+numberOf SemiMajorAxis = 2
+-- a·(10^7 − e) below 6,478,000·10^7
+numberOf PerigeeDistance = 3
+-- inclination above 2^31
+numberOf Inclination = 4
+-- n outside 20,000,000 to 1,700,000,000
+numberOf MeanMotion = 5
+-- a drift rate beyond ±200,000
+numberOf DriftRate = 6
+-- epoch revolution above 99,999
+numberOf EpochRevolution = 7
+-- epoch or time out of range, or the two too far apart
+numberOf Time = 8
+-- after the halvings k(E) ≤ M < k(E + 1) does not hold
+numberOf NotConverged = 9
+-- telemetry length no multiple of 16, or over 1,024 records
+numberOf TelemetryLength = 10
+-- output shorter than 24 a record plus 16
+numberOf OutputLength = 11
+-- a label file's length, or its trailer's numbers
+numberOf FileLength = 12
+-- a label's field rules, or the trailer's counts
+numberOf LabelRules = 13
+-- a position or Sun component beyond the shade test's range
+numberOf ShadeRange = 14

@@ -1,0 +1,44 @@
+// The refusals of document 01, "When the build says no", each with its number.
+ghost use mathlib.Core.Path.{_≡_};
+ghost use Rattle.refusal.specs.Numbers.{numberOf};
+
+pub enum Refusal {
+    Eccentricity,
+    SemiMajorAxis,
+    PerigeeDistance,
+    Inclination,
+    MeanMotion,
+    DriftRate,
+    EpochRevolution,
+    Time,
+    NotConverged,
+    TelemetryLength,
+    OutputLength,
+    FileLength,
+    LabelRules,
+    ShadeRange,
+}
+
+impl Refusal {
+    // The number of a refusal in document 01's table.
+    pub fn number(self) -> u32
+        ensures { λ r. ⌜ r ≡ numberOf self ⌝ }
+    {
+        match self {
+            Refusal::Eccentricity => 1,
+            Refusal::SemiMajorAxis => 2,
+            Refusal::PerigeeDistance => 3,
+            Refusal::Inclination => 4,
+            Refusal::MeanMotion => 5,
+            Refusal::DriftRate => 6,
+            Refusal::EpochRevolution => 7,
+            Refusal::Time => 8,
+            Refusal::NotConverged => 9,
+            Refusal::TelemetryLength => 10,
+            Refusal::OutputLength => 11,
+            Refusal::FileLength => 12,
+            Refusal::LabelRules => 13,
+            Refusal::ShadeRange => 14,
+        }
+    }
+}
