@@ -1,0 +1,11 @@
+pub mod Quarters
+pub mod Products
+pub mod Horner
+pub mod Steps
+pub mod Reduction
+pub mod Taylor
+pub mod Turned
+pub mod Cap
+pub mod Accuracy
+pub mod Signs
+pub mod Slope

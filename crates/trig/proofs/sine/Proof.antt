@@ -1,0 +1,24 @@
+-- `trig::sine` meets its contract. Assumes nothing.
+use borrow.Author.Needs.{needs}
+use Rattle.trig.proofs.Signs.{minus-fits, upper-sine, lower-sine}
+use Rattle.trig.proofs.sine.Statement.{statement}
+use Rattle.trig.proofs.sine.Tie as tie
+
+sine-magnitude-requires : tie.Need-sine-magnitude-requires
+sine-magnitude-requires c κs = search needs
+
+cast-magnitude : tie.Need-cast-magnitude
+cast-magnitude c = search needs
+
+sub-result : tie.Need-sub-result
+sub-result c = minus-fits _ _ (c .before .sine-magnitude .ensures)
+
+returns : tie.Need-returns
+returns c = upper-sine _ _ (c .before .sine-magnitude .ensures) (c .if1 .taken)
+
+returns-2 : tie.Need-returns-2
+returns-2 c = lower-sine _ _ (c .before .sine-magnitude .ensures) (c .if1 .left) (search needs)
+
+pub sine-spec : {M : Type 1} → statement M
+sine-spec =
+    tie.close (tie.spec sine-magnitude-requires cast-magnitude sub-result returns returns-2)

@@ -1,0 +1,4 @@
+pub mod Angle
+pub mod Sine
+pub mod ExactSine
+pub mod Contract
