@@ -1,0 +1,3 @@
+pub mod Kepler
+pub mod Demand
+pub mod Solution
