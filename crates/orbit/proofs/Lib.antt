@@ -1,0 +1,4 @@
+pub mod Accepted
+pub mod MeanAnomaly
+pub mod Distances
+pub mod Placements

@@ -1,0 +1,26 @@
+-- `orbit::elements::Verdict::refuse_if` meets its contract. Assumes nothing.
+use borrow.Author.Needs.{needs}
+use Rattle.orbit.specs.Elements.{refuseIf}
+use Rattle.orbit.proofs.elements.Verdict.refuse_if.Statement.{statement}
+use Rattle.orbit.proofs.elements.Verdict.refuse_if.Tie as tie
+
+enum-known-self : tie.Need-enum-known-self
+enum-known-self c = search needs
+
+enum-told : tie.Need-enum-told
+enum-told c = search needs
+
+returns : tie.Need-returns
+unfolding refuseIf
+returns c = rw (c .before .self .given .1)
+
+returns-2 : tie.Need-returns-2
+unfolding refuseIf
+returns-2 c = rw (c .before .enum-told .given .1, c .if1 .taken)
+
+returns-3 : tie.Need-returns-3
+unfolding refuseIf
+returns-3 c = search needs
+
+pub refuse-if-spec : {M : Type 1} → statement M
+refuse-if-spec = tie.close (tie.spec enum-known-self enum-told returns returns-2 returns-3)

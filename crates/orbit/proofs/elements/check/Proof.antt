@@ -1,0 +1,104 @@
+-- `orbit::elements::check` meets its contract. Assumes nothing.
+use borrow.Author.Needs.{needs}
+use mathlib.Core.Path.{refl, ap}
+use mathlib.Core.Bool.{not}
+use mir.Syntax.{w32, w64}
+use mir.Val.{SFits}
+use mir.Facts.{toZ-ofZ}
+use Rattle.orbit.specs.Elements.{checked}
+use Rattle.orbit.proofs.Accepted.{also}
+use Rattle.orbit.proofs.elements.check.Statement.{statement}
+use Rattle.orbit.proofs.elements.check.Tie as tie
+
+refuse-if-requires : tie.Need-refuse-if-requires
+refuse-if-requires c κs = search needs
+
+outside-requires : tie.Need-outside-requires
+outside-requires c κs = search needs
+
+refuse-if-requires-2 : tie.Need-refuse-if-requires-2
+refuse-if-requires-2 c κs = search needs
+
+perigee-below-requires : tie.Need-perigee-below-requires
+perigee-below-requires c κs = search needs
+
+refuse-if-requires-3 : tie.Need-refuse-if-requires-3
+refuse-if-requires-3 c κs = search needs
+
+refuse-if-requires-4 : tie.Need-refuse-if-requires-4
+refuse-if-requires-4 c κs = search needs
+
+outside-requires-2 : tie.Need-outside-requires-2
+outside-requires-2 c κs = search needs
+
+refuse-if-requires-5 : tie.Need-refuse-if-requires-5
+refuse-if-requires-5 c κs = search needs
+
+rate-beyond-requires : tie.Need-rate-beyond-requires
+rate-beyond-requires c κs = search needs
+
+refuse-if-requires-6 : tie.Need-refuse-if-requires-6
+refuse-if-requires-6 c κs = search needs
+
+rate-beyond-requires-2 : tie.Need-rate-beyond-requires-2
+rate-beyond-requires-2 c κs = search needs
+
+refuse-if-requires-7 : tie.Need-refuse-if-requires-7
+refuse-if-requires-7 c κs = search needs
+
+refuse-if-requires-8 : tie.Need-refuse-if-requires-8
+refuse-if-requires-8 c κs = search needs
+
+in-range-requires : tie.Need-in-range-requires
+in-range-requires c κs = search needs
+
+refuse-if-requires-9 : tie.Need-refuse-if-requires-9
+refuse-if-requires-9 c κs = search needs
+
+-- the signed fields fit, which owning the struct tells
+node-rate-fits : (s : tie.Start) → SFits w32 (s .args .elements .«node_rate»)
+node-rate-fits s = search needs
+
+perigee-rate-fits : (s : tie.Start) → SFits w32 (s .args .elements .«perigee_rate»)
+perigee-rate-fits s = search needs
+
+epoch-fits : (s : tie.Start) → SFits w64 (s .args .elements .epoch)
+epoch-fits s = search needs
+
+returns : tie.Need-returns
+unfolding checked
+returns c =
+    let s = c .before .before .before .before .before .before .before .before .before .before .before .before .before .before .before .before .before .before .before .before .before in
+    let node = rw (toZ-ofZ (node-rate-fits s)) at (c .before .before .before .before .before .before .before .before .before .rate-beyond .ensures) in
+    let perigee = rw (toZ-ofZ (perigee-rate-fits s)) at (c .before .before .before .before .before .before .rate-beyond2 .ensures) in
+    let epoch = rw (toZ-ofZ (epoch-fits s)) at (c .before .in-range .ensures) in
+    let e1 = c .before .before .before .before .before .before .before .before .before .before .before .before .before .before .before .before .before .before .before .refuse-if .ensures in
+    let e2 = also _ e1 (c .before .before .before .before .before .before .before .before .before .before .before .before .before .before .before .before .before .before .outside .ensures) (c .before .before .before .before .before .before .before .before .before .before .before .before .before .before .before .before .before .refuse-if2 .ensures) in
+    let e3 = also _ e2 (c .before .before .before .before .before .before .before .before .before .before .before .before .before .before .before .before .perigee-below .ensures) (c .before .before .before .before .before .before .before .before .before .before .before .before .before .before .before .refuse-if3 .ensures) in
+    let e4 = also _ e3 refl (c .before .before .before .before .before .before .before .before .before .before .before .before .before .refuse-if4 .ensures) in
+    let e5 = also _ e4 (c .before .before .before .before .before .before .before .before .before .before .before .before .outside2 .ensures) (c .before .before .before .before .before .before .before .before .before .before .before .refuse-if5 .ensures) in
+    let e6 = also _ e5 node (c .before .before .before .before .before .before .before .before .refuse-if6 .ensures) in
+    let e6' = also _ e6 perigee (c .before .before .before .before .before .refuse-if7 .ensures) in
+    let e7 = also _ e6' refl (c .before .before .before .refuse-if8 .ensures) in
+    also _ e7 (ap not epoch) (c .refuse-if9 .ensures)
+
+pub check-spec : {M : Type 1} → statement M
+check-spec =
+    tie.close
+    (tie.spec
+    refuse-if-requires
+    outside-requires
+    refuse-if-requires-2
+    perigee-below-requires
+    refuse-if-requires-3
+    refuse-if-requires-4
+    outside-requires-2
+    refuse-if-requires-5
+    rate-beyond-requires
+    refuse-if-requires-6
+    rate-beyond-requires-2
+    refuse-if-requires-7
+    refuse-if-requires-8
+    in-range-requires
+    refuse-if-requires-9
+    returns)

@@ -1,0 +1,30 @@
+-- `orbit::elements::perigee_below` meets its contract. Assumes nothing.
+use borrow.Author.Needs.{needs}
+use mathlib.Core.Path.{refl, sym}
+use native.Mathlib.Nat.{mul-le-mul, mul-zero}
+use native.Mathlib.Omega.{arith}
+use Prim.Native.Nat.{_≤_, _-_}
+use borrow.Author.Tests.{lt-ltb}
+use Rattle.orbit.specs.Elements.{perigeeBelow}
+use Rattle.orbit.proofs.Accepted.{perigee-beyond}
+use Rattle.orbit.proofs.elements.perigee_below.Statement.{statement}
+use Rattle.orbit.proofs.elements.perigee_below.Tie as tie
+
+returns : tie.Need-returns
+returns c = perigee-beyond (c .before .args .a) (c .before .args .e) (c .if1 .taken)
+
+sub-result : tie.Need-sub-result
+sub-result c = search needs
+
+mul-result : tie.Need-mul-result
+mul-result c =
+    let a : c .before .args .a ≤ 4294967295 = omega arith in
+    let d : 10000000 - c .before .args .e ≤ 10000000 = omega arith in
+    record { fits = omega (arith, mul-le-mul a d) }
+
+returns-2 : tie.Need-returns-2
+unfolding perigeeBelow
+returns-2 c = refl
+
+pub perigee-below-spec : {M : Type 1} → statement M
+perigee-below-spec = tie.close (tie.spec returns sub-result mul-result returns-2)

@@ -1,0 +1,52 @@
+-- `orbit::ellipse::plane_x` meets its contract. Assumes nothing.
+use borrow.Author.Needs.{needs}
+use mathlib.Core.Path.{_≡_, _∙_, ap}
+use native.Mathlib.Omega.{arith}
+use lib.Dec.{lit≤}
+use lib.IntN.{ℤ, pos, _-ℤ_, _*ℤ_}
+use lib.Signed.{quotZ}
+use mir.Syntax.{w64}
+use mir.Val.{toZ, ofZ}
+use mir.Facts.{toZ-ofZ, toZ-pos}
+use Rattle.integer.proofs.Bounds.{within-more, sfits-within}
+use Rattle.orbit.specs.Ellipse.{e30, inPlaneX}
+use Rattle.orbit.proofs.Distances.{offset-within, x-product-within, x-within}
+use Rattle.orbit.proofs.ellipse.plane_x.Statement.{statement}
+use Rattle.orbit.proofs.ellipse.plane_x.Tie as tie
+
+cast-scaled : tie.Need-cast-scaled
+cast-scaled c = search needs
+
+eccentricity30-requires : tie.Need-eccentricity30-requires
+eccentricity30-requires c κs = search needs
+
+cast-scaled-2 : tie.Need-cast-scaled-2
+cast-scaled-2 c = search needs
+
+offset-is : (c : tie.After-eccentricity30) → toZ w64 (ofZ w64 (c .before .args .cosine)) -ℤ toZ w64 (c .eccentricity30 .result) ≡ c .before .args .cosine -ℤ pos (e30 (c .before .args .e))
+offset-is c =
+    let k = toZ-pos w64 {n = c .eccentricity30 .result} (omega (arith, c .eccentricity30 .ensures .1)) ∙ ap pos (c .eccentricity30 .ensures .0) in
+    rw (toZ-ofZ (c .before .fits .cosine), k)
+
+sub-scaled : tie.Need-sub-scaled
+sub-scaled c = let s = c .before in rw (offset-is c) (sfits-within (offset-within (s .args .a) (s .args .e) (s .args .cosine) (s .pre .0) (s .pre .1 .0) (s .pre .1 .1)) tt)
+
+product-is : (c : tie.After-eccentricity30) → toZ w64 (c .before .args .a) *ℤ toZ w64 (ofZ w64 (toZ w64 (ofZ w64 (c .before .args .cosine)) -ℤ toZ w64 (c .eccentricity30 .result))) ≡ pos (c .before .args .a) *ℤ (c .before .args .cosine -ℤ pos (e30 (c .before .args .e)))
+product-is c = rw (toZ-pos w64 {n = c .before .args .a} (omega arith), toZ-ofZ (sub-scaled c), offset-is c)
+
+scaled-requires : tie.Need-scaled-requires
+scaled-requires c κs = let s = c .before in rw (product-is c) (within-more (x-product-within (s .args .a) (s .args .e) (s .args .cosine) (s .pre .0) (s .pre .1 .0) (s .pre .1 .1)) (lit≤ tt))
+
+x-is : (c : tie.After-scaled) → let a = c .before .before .args in toZ w64 (ofZ w64 (c .scaled .result)) ≡ inPlaneX (a .a) (a .e) (a .cosine)
+unfolding inPlaneX
+x-is c =
+    toZ-ofZ (record { sfits = c .scaled .ok }) ∙ c .scaled .ensures
+    ∙ ap (λ (z : ℤ). quotZ z (pos 1073741824)) (product-is (c .before))
+
+returns : tie.Need-returns
+returns c = let s = c .before .before in let e = x-is c in (e, rw e (x-within (s .args .a) (s .args .e) (s .args .cosine) (s .pre .0) (s .pre .1 .0) (s .pre .1 .1)))
+
+pub plane-x-spec : {M : Type 1} → statement M
+plane-x-spec =
+    tie.close
+    (tie.spec cast-scaled eccentricity30-requires cast-scaled-2 sub-scaled scaled-requires returns)

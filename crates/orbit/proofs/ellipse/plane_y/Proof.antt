@@ -1,0 +1,57 @@
+-- `orbit::ellipse::plane_y` meets its contract. Assumes nothing.
+use borrow.Author.Needs.{needs}
+use mathlib.Core.Path.{_≡_, _∙_, ap}
+use native.Mathlib.Omega.{arith}
+use lib.Dec.{lit≤}
+use lib.IntN.{ℤ, pos, _*ℤ_}
+use lib.Signed.{quotZ}
+use mir.Syntax.{w64}
+use mir.Val.{toZ, ofZ}
+use mir.Facts.{toZ-ofZ, toZ-pos}
+use Rattle.integer.proofs.Bounds.{within-pos, within-mul, within-more}
+use Rattle.orbit.specs.Ellipse.{inPlaneY}
+use Rattle.orbit.proofs.Distances.{height-within, y-within}
+use Rattle.orbit.proofs.ellipse.plane_y.Statement.{statement}
+use Rattle.orbit.proofs.ellipse.plane_y.Tie as tie
+
+cast-scaled : tie.Need-cast-scaled
+cast-scaled c = search needs
+
+cast-scaled-2 : tie.Need-cast-scaled-2
+cast-scaled-2 c = search needs
+
+inner-is : (c : tie.Start) → toZ w64 (c .args .minor-axis) *ℤ toZ w64 (ofZ w64 (c .args .sine)) ≡ pos (c .args .minor-axis) *ℤ c .args .sine
+inner-is c = rw (toZ-pos w64 {n = c .args .minor-axis} (omega arith), toZ-ofZ (c .fits .sine))
+
+scaled-requires : tie.Need-scaled-requires
+scaled-requires c κs = rw (inner-is c) (within-more (within-mul (within-pos (c .pre .1 .0)) (c .pre .1 .1)) (lit≤ tt))
+
+height-is : (c : tie.After-scaled) → toZ w64 (ofZ w64 (c .scaled .result)) ≡ quotZ (pos (c .before .args .minor-axis) *ℤ c .before .args .sine) (pos 1073741824)
+height-is c =
+    toZ-ofZ (record { sfits = c .scaled .ok }) ∙ c .scaled .ensures
+    ∙ ap (λ (z : ℤ). quotZ z (pos 1073741824)) (inner-is (c .before))
+
+outer-is : (c : tie.After-scaled) → toZ w64 (c .before .args .a) *ℤ toZ w64 (ofZ w64 (c .scaled .result)) ≡ pos (c .before .args .a) *ℤ quotZ (pos (c .before .args .minor-axis) *ℤ c .before .args .sine) (pos 1073741824)
+outer-is c = rw (toZ-pos w64 {n = c .before .args .a} (omega arith), height-is c)
+
+scaled-requires-2 : tie.Need-scaled-requires-2
+scaled-requires-2 c κs =
+    let s = c .before in
+    rw (outer-is c)
+    (within-more (within-mul (within-pos (s .pre .0)) (height-within (s .args .a) (s .args .minor-axis) (s .args .sine) (s .pre .0) (s .pre .1 .0) (s .pre .1 .1))) (lit≤ tt))
+
+y-is : (c : tie.After-scaled2) → let a = c .before .before .args in toZ w64 (ofZ w64 (c .scaled2 .result)) ≡ inPlaneY (a .a) (a .minor-axis) (a .sine)
+unfolding inPlaneY
+y-is c =
+    toZ-ofZ (record { sfits = c .scaled2 .ok }) ∙ c .scaled2 .ensures
+    ∙ ap (λ (z : ℤ). quotZ z (pos 1073741824)) (outer-is (c .before))
+
+returns : tie.Need-returns
+returns c =
+    let s = c .before .before in
+    let e = y-is c in
+    (e, rw e (y-within (s .args .a) (s .args .minor-axis) (s .args .sine) (s .pre .0) (s .pre .1 .0) (s .pre .1 .1)))
+
+pub plane-y-spec : {M : Type 1} → statement M
+plane-y-spec =
+    tie.close (tie.spec cast-scaled cast-scaled-2 scaled-requires scaled-requires-2 returns)

@@ -1,0 +1,103 @@
+-- `orbit::position` meets its contract. Assumes nothing.
+use borrow.Author.Needs.{needs}
+use mathlib.Core.Path.{_≡_, _∙_, ap, sym, subst}
+use native.Mathlib.Omega.{arith}
+use mir.Facts.{toZ-ofZ}
+use Rattle.kepler.specs.Solution.{solution, AnomalyAt, Owes}
+use Rattle.kepler.specs.declared.Solution.the-variants.{Solved}
+use Rattle.orbit.specs.declared.Placement.the-variants.{Placed}
+use Rattle.orbit.specs.declared.elements.Verdict.the-variants.{Passed}
+use Rattle.orbit.specs.Time.{checkedAt}
+use Rattle.orbit.specs.Turns.{Mean, meanAnomaly}
+use Rattle.orbit.proofs.Accepted.{accepted-at}
+use Rattle.orbit.proofs.Placements.{placement-refused, placement-placed}
+use Rattle.orbit.proofs.position.Statement.{statement}
+use Rattle.orbit.proofs.position.Tie as tie
+
+check-at-requires : tie.Need-check-at-requires
+check-at-requires c κs = search needs
+
+enum-known-verdict : tie.Need-enum-known-verdict
+enum-known-verdict c = search needs
+
+enum-told : tie.Need-enum-told
+enum-told c = search needs
+
+-- ---- what the calls gave
+passed : (c : tie.After-enum-told) → checkedAt (c .before .before .before .args .elements) (c .before .before .before .args .time) ≡ Passed
+passed c =
+    sym (rw (toZ-ofZ (c .before .before .before .fits .time)) at (c .before .before .check-at .ensures)) ∙ c .enum-told .given .1
+
+mean-at-requires : tie.Need-mean-at-requires
+mean-at-requires c κs = rw (toZ-ofZ (c .before .before .before .fits .time)) (passed c)
+
+mean-is : (c : tie.After-mean-at) → let a = c .before .before .before .before .args in Mean (a .elements) (a .time) (c .mean-at .result)
+mean-is c = rw (toZ-ofZ (c .before .before .before .before .fits .time)) at (c .mean-at .ensures)
+
+solve-requires : tie.Need-solve-requires
+solve-requires c κs = search needs
+
+enum-known-solution : tie.Need-enum-known-solution
+enum-known-solution c = search needs
+
+enum-known-solution-2 : tie.Need-enum-known-solution-2
+enum-known-solution-2 c = search needs
+
+-- what the solver's answer owes, by its case
+owed : (c : tie.After-solve) → let a = c .before .before .before .before .before .args in Owes (a .elements .eccentricity) (meanAnomaly (a .elements) (a .time)) (c .solve .result)
+owed c = rw (mean-is (c .before) .anomaly-is) at (c .solve .ensures .owes)
+
+anomaly-at : (c : tie.After-solution2) → let a = c .before .before .before .before .before .before .before .args in AnomalyAt (a .elements .eccentricity) (meanAnomaly (a .elements) (a .time)) (c .solution2 .given .0 .0)
+anomaly-at c = subst (Owes _ _) (c .solution2 .given .1) (owed (c .before .before))
+
+minor-axis-requires : tie.Need-minor-axis-requires
+minor-axis-requires c κs =
+    let p = c .before .before .before .before .before in
+    accepted-at _ _ (passed p) .elements .eccentricity-le
+
+place-requires : tie.Need-place-requires
+place-requires c κs =
+    let p = c .before .before .before .before .before .before in
+    rw (toZ-ofZ (p .before .before .before .fits .time))
+    (record { passed = passed p; minor-is = c .minor-axis .ensures .0; mean-is = mean-is (c .before .before .before .before .before); anomaly-is = anomaly-at (c .before .before) })
+
+returns : tie.Need-returns
+returns c =
+    let s = c .before .before .before .before in
+    let e = sym (rw (toZ-ofZ (s .fits .time)) at (c .before .before .before .check-at .ensures)) ∙ c .before .verdict .given .1 in
+    record { is = placement-refused (s .args .elements) (s .args .time) _ e; owes = e }
+
+returns-2 : tie.Need-returns-2
+returns-2 c =
+    let p = c .before .before .before .before .before in
+    let o = subst (Owes _ _) (c .before .solution .given .1) (owed (c .before .before .before)) in
+    absurd (omega (arith, o .1, accepted-at _ _ (passed p) .elements .eccentricity-le))
+
+returns-3 : tie.Need-returns-3
+returns-3 c =
+    let s = c .before .before .before .before .before .before .before .before .before .before in
+    let u = c .before .before .before in
+    let p = rw (toZ-ofZ (s .fits .time)) at (c .place .ensures) in
+    let m = mean-is (u .before .before .before) .anomaly-is in
+    let k = sym (rw m at (u .before .before .solve .ensures .is)) ∙ u .solution2 .given .1 in
+    record {
+      is = ap Placed (p .is) ∙ placement-placed (s .args .elements) (s .args .time) _ (passed (u .before .before .before .before)) k;
+      owes = p .owes;
+    }
+
+pub position-spec : {M : Type 1} → statement M
+position-spec =
+    tie.close
+    (tie.spec
+    check-at-requires
+    enum-known-verdict
+    enum-told
+    mean-at-requires
+    solve-requires
+    enum-known-solution
+    enum-known-solution-2
+    minor-axis-requires
+    place-requires
+    returns
+    returns-2
+    returns-3)

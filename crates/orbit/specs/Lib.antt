@@ -1,0 +1,5 @@
+pub mod Elements
+pub mod Time
+pub mod Turns
+pub mod Ellipse
+pub mod Placement

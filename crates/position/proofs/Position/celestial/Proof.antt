@@ -1,0 +1,38 @@
+-- `position::Position::celestial` meets its contract. Assumes nothing.
+use borrow.Author.Needs.{needs}
+use lib.Dec.{lit≤}
+use Rattle.position.specs.Turn.{celestialOf}
+use Rattle.position.proofs.Bounds.{box-more, box-turned-xy, box-turned-yz, celestial-box}
+use Rattle.position.proofs.Position.celestial.Statement.{statement}
+use Rattle.position.proofs.Position.celestial.Tie as tie
+
+turn-xy-requires : tie.Need-turn-xy-requires
+turn-xy-requires c κs = search needs
+
+turn-yz-requires : tie.Need-turn-yz-requires
+turn-yz-requires c κs =
+    let s = c .before in
+    rw (c .turn-xy .ensures) (box-more (box-turned-xy _ (s .pre)) (lit≤ tt) (lit≤ tt) (lit≤ tt))
+
+turn-xy-requires-2 : tie.Need-turn-xy-requires-2
+turn-xy-requires-2 c κs =
+    let s = c .before .before in
+    rw (c .turn-yz .ensures, c .before .turn-xy .ensures)
+    (box-more
+    (box-turned-yz _ (box-turned-xy _ (s .pre)))
+    (lit≤ tt)
+    (lit≤ tt)
+    (lit≤ tt))
+
+returns : tie.Need-returns
+unfolding celestialOf
+returns c =
+    let s = c .before .before .before in
+    let e = celestial-box (s .args .argument-of-perigee) (s .args .inclination) (s .args .node) (s .pre) in
+    record {
+      is = rw (c .turn-xy2 .ensures, c .before .turn-yz .ensures, c .before .before .turn-xy .ensures);
+      box = rw (c .turn-xy2 .ensures, c .before .turn-yz .ensures, c .before .before .turn-xy .ensures) e;
+    }
+
+pub celestial-spec : {M : Type 1} → statement M
+celestial-spec = tie.close (tie.spec turn-xy-requires turn-yz-requires turn-xy-requires-2 returns)

@@ -1,0 +1,18 @@
+-- `position::Position::turn_xy` meets its contract. Assumes nothing.
+use borrow.Author.Needs.{needs}
+use Rattle.integer.proofs.TwosComplement.{read-within}
+use Rattle.position.proofs.Components.{same-position, read-turned}
+use Rattle.position.proofs.Position.turn_xy.Statement.{statement}
+use Rattle.position.proofs.Position.turn_xy.Tie as tie
+
+turned-requires : tie.Need-turned-requires
+turned-requires c κs = search needs
+
+returns : tie.Need-returns
+returns c =
+    let pre = c .before .before .before .before .before .pre in
+    let t = read-turned (pre .x-within) (pre .y-within) (c .before .before .turned .ensures) (search needs) (search needs) in
+    same-position (t .0) (t .1) (read-within (pre .z-within) tt)
+
+pub turn-xy-spec : {M : Type 1} → statement M
+turn-xy-spec = tie.close (tie.spec turned-requires returns)

@@ -1,0 +1,3 @@
+pub mod Box
+pub mod Turn
+pub mod Contract
