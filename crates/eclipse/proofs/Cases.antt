@@ -1,0 +1,40 @@
+-- The cases of the shade rule and of refusal 14, each from the tests that lead to it. Assumes nothing.
+use mathlib.Core.Path.{_≡_}
+use mathlib.Core.Bool.{true, false}
+use Prim.Native.Nat.{_^_}
+use lib.IntN.{ℤ, pos}
+use lib.Signed.{ltZ}
+use Rattle.refusal.specs.declared.Refusal.the-variants.{ShadeRange}
+use Rattle.position.specs.declared.Position.{Position}
+use Rattle.sun.specs.declared.Direction.{Direction}
+use Rattle.eclipse.specs.Shade.{projection, sideSquared, shadeOf, anyBeyond, outOfRange, shadeAnswer}
+use Rattle.eclipse.specs.declared.Shade.the-variants.{Lit, Dark}
+use Rattle.eclipse.specs.declared.ShadeAnswer.the-variants.{Shaded, Refused}
+
+module _ (q : Position) (sun : Direction) (p : ℤ) (e : p ≡ projection q sun) where
+  pub lit-before : ltZ p (pos 0) ≡ false → Lit ≡ shadeOf q sun
+  unfolding shadeOf
+  lit-before t = rw (← e, t)
+
+  pub lit-beside : ltZ p (pos 0) ≡ true → ltZ (sideSquared q p) (pos (6_378_000 ^ 2)) ≡ false → Lit ≡ shadeOf q sun
+  unfolding shadeOf
+  lit-beside t u = rw (← e, t, u)
+
+  pub dark-behind : ltZ p (pos 0) ≡ true → ltZ (sideSquared q p) (pos (6_378_000 ^ 2)) ≡ true → Dark ≡ shadeOf q sun
+  unfolding shadeOf
+  dark-behind t u = rw (← e, t, u)
+
+module _ (q : Position) (sun : Direction) where
+  pub position-refused : anyBeyond 200_000_000 (q .x) (q .y) (q .z) ≡ true → Refused ShadeRange ≡ shadeAnswer q sun
+  unfolding outOfRange shadeAnswer
+  position-refused e = rw e
+
+  pub sun-refused : anyBeyond 200_000_000 (q .x) (q .y) (q .z) ≡ false → anyBeyond (2 ^ 30) (sun .x) (sun .y) (sun .z) ≡ true
+      → Refused ShadeRange ≡ shadeAnswer q sun
+  unfolding outOfRange shadeAnswer
+  sun-refused e f = rw (e, f)
+
+  pub shaded : anyBeyond 200_000_000 (q .x) (q .y) (q .z) ≡ false → anyBeyond (2 ^ 30) (sun .x) (sun .y) (sun .z) ≡ false
+      → Shaded (shadeOf q sun) ≡ shadeAnswer q sun
+  unfolding outOfRange shadeAnswer
+  shaded e f = rw (e, f)

@@ -1,0 +1,29 @@
+-- `eclipse::elevation` meets its contract. Assumes nothing.
+use borrow.Author.Needs.{needs}
+use mir.Syntax.{w32}
+use mir.Facts.{toZ-ofZ}
+use Rattle.integer.proofs.TwosComplement.{read-back, read-within}
+use Rattle.eclipse.proofs.SolarElevation.{elevation-at}
+use Rattle.eclipse.proofs.elevation.Statement.{statement}
+use Rattle.eclipse.proofs.elevation.Tie as tie
+
+normal-requires : tie.Need-normal-requires
+normal-requires c κs = search needs
+
+dot-requires : tie.Need-dot-requires
+dot-requires c κs = search needs
+
+held-requires : tie.Need-held-requires
+held-requires c κs = search needs
+
+returns : tie.Need-returns
+returns c =
+    let n = c .before .before .before .before .before .normal in
+    let w = n .ensures .small in
+    let d = c .before .dot in
+    let dot-is = rw (read-within (w .x-within) tt, read-within (w .y-within) tt, read-within (w .z-within) tt) at (d .ensures) in
+    let held-at = rw (read-back (d .result) (d .ok)) at (c .held .ensures) in
+    rw (toZ-ofZ {w = w32} {z = c .held .result} (record { sfits = c .held .ok })) (elevation-at (n .ensures) dot-is held-at)
+
+pub elevation-spec : {M : Type 1} → statement M
+elevation-spec = tie.close (tie.spec normal-requires dot-requires held-requires returns)

@@ -1,0 +1,68 @@
+-- `eclipse::shade_test` meets its contract. Assumes nothing.
+use borrow.Author.Needs.{needs}
+use mathlib.Core.Path.{_≡_, sym, _∙_}
+use mir.Syntax.{w64}
+use mir.Val.{SFits}
+use mir.Facts.{toZ-ofZ}
+use Rattle.eclipse.specs.Shade.{anyBeyond}
+use Rattle.eclipse.proofs.Bounds.{position-in-box, sun-within-one}
+use Rattle.eclipse.proofs.Cases.{position-refused, sun-refused, shaded}
+use Rattle.eclipse.proofs.shade_test.Statement.{statement}
+use Rattle.eclipse.proofs.shade_test.Tie as tie
+
+position-is : (c : tie.After-any-beyond) → let q = c .before .before .before .before .args .position in
+    c .any-beyond .result ≡ anyBeyond 200_000_000 (q .x) (q .y) (q .z)
+position-is c =
+    let q = c .before .before .before .before .args .position in
+    let x : SFits w64 (q .x) = search needs in
+    let y : SFits w64 (q .y) = search needs in
+    let z : SFits w64 (q .z) = search needs in
+    rw (toZ-ofZ x, toZ-ofZ y, toZ-ofZ z) at (c .any-beyond .ensures)
+
+sun-is : (c : tie.After-any-beyond2) → let d = c .before .before .before .before .before .before .before .before .before .args .sun in
+    c .any-beyond2 .result ≡ anyBeyond 0x4000_0000 (d .x) (d .y) (d .z)
+sun-is c =
+    let d = c .before .before .before .before .before .before .before .before .before .args .sun in
+    let x : SFits w64 (d .x) = search needs in
+    let y : SFits w64 (d .y) = search needs in
+    let z : SFits w64 (d .z) = search needs in
+    rw (toZ-ofZ x, toZ-ofZ y, toZ-ofZ z) at (c .any-beyond2 .ensures)
+
+any-beyond-requires : tie.Need-any-beyond-requires
+any-beyond-requires c κs = search needs
+
+returns : tie.Need-returns
+returns c = position-refused _ _ (sym (position-is (c .before)) ∙ c .if1 .taken)
+
+any-beyond-requires-2 : tie.Need-any-beyond-requires-2
+any-beyond-requires-2 c κs = search needs
+
+returns-2 : tie.Need-returns-2
+returns-2 c =
+    let i = c .before .before .before .before .before in
+    sun-refused _ _ (sym (position-is (i .before)) ∙ i .if1 .left) (sym (sun-is (c .before)) ∙ c .if2 .taken)
+
+shade-at-requires : tie.Need-shade-at-requires
+shade-at-requires c κs =
+    let i = c .before .before .before .before .before in (
+      position-in-box _ (sym (position-is (i .before)) ∙ i .if1 .left),
+      sun-within-one _ (sym (sun-is (c .before)) ∙ c .if2 .left),
+    )
+
+returns-3 : tie.Need-returns-3
+returns-3 c =
+    let j = c .before in
+    let i = j .before .before .before .before .before in
+    rw (c .shade-at .ensures)
+    (shaded _ _ (sym (position-is (i .before)) ∙ i .if1 .left) (sym (sun-is (j .before)) ∙ j .if2 .left))
+
+pub shade-test-spec : {M : Type 1} → statement M
+shade-test-spec =
+    tie.close
+    (tie.spec
+    any-beyond-requires
+    returns
+    any-beyond-requires-2
+    returns-2
+    shade-at-requires
+    returns-3)

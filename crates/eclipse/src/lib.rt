@@ -1,0 +1,138 @@
+// Shade, and the Sun's elevation above the plane of the orbit: document 01, "Sun and shade".
+ghost use mathlib.Core.Path.{_≡_};
+ghost use Prim.Native.Nat.{_^_};
+ghost use Rattle.integer.specs.Bound.{Within};
+ghost use Rattle.position.specs.Box.{Box};
+ghost use Rattle.sun.specs.Contract.{WithinOne};
+ghost use Rattle.eclipse.specs.Dot.{dotOf};
+ghost use Rattle.eclipse.specs.Shade.{shadeCode, sideSquared, shadeOf, anyBeyond, shadeAnswer};
+ghost use Rattle.eclipse.specs.Elevation.{HeldAt, NormalAt, ElevationAt};
+use position::Position;
+use refusal::Refusal;
+use sun::Direction;
+
+// One, in units of 2^-30.
+const ONE: i64 = 0x4000_0000;
+
+// The square of the Earth's radius, 6,378,000 m.
+const EARTH_RADIUS_SQUARED: i64 = 40_678_884_000_000;
+
+pub enum Shade {
+    Lit,
+    Dark,
+}
+
+impl Shade {
+    // The number of a shade, as labels and answers have it.
+    pub fn code(self) -> u8
+        ensures { λ r. ⌜ r ≡ shadeCode self ⌝ }
+    {
+        match self {
+            Shade::Lit => 0,
+            Shade::Dark => 1,
+        }
+    }
+}
+
+pub enum ShadeAnswer {
+    Shaded(Shade),
+    Refused(Refusal),
+}
+
+// The scalar product with a direction.
+fn dot(x: i64, y: i64, z: i64, direction: Direction) -> i64
+    requires { ⌜ Within (2 ^ 30) x × Within (2 ^ 30) y × Within (2 ^ 30) z × WithinOne direction ⌝ }
+    ensures { λ r. ⌜ r ≡ dotOf x y z direction ⌝ }
+{
+    (x * direction.x + y * direction.y + z * direction.z) / ONE
+}
+
+// The square of the distance from the line through the Earth and the Sun.
+fn side_squared(position: Position, p: i64) -> i64
+    requires { ⌜ Box 580_000_000 580_000_000 290_000_000 position × Within 1_450_000_000 p ⌝ }
+    ensures { λ r. ⌜ r ≡ sideSquared position p ⌝ }
+{
+    let x = position.x;
+    let y = position.y;
+    let z = position.z;
+    x * x + y * y + z * z - p * p
+}
+
+// The shade at a celestial position. It makes no test of refusal 14: it is for labelling, whose positions and Suns
+// have these bounds by the promises of `celestial` and `sun_at`, and for `shade_test`.
+pub fn shade_at(position: Position, sun: Direction) -> Shade
+    requires { ⌜ Box 580_000_000 580_000_000 290_000_000 position × WithinOne sun ⌝ }
+    ensures { λ r. ⌜ r ≡ shadeOf position sun ⌝ }
+{
+    let p = dot(position.x, position.y, position.z, sun);
+    if p < 0 {
+        if side_squared(position, p) < EARTH_RADIUS_SQUARED {
+            Shade::Dark
+        } else {
+            Shade::Lit
+        }
+    } else {
+        Shade::Lit
+    }
+}
+
+// Whether one of three components is beyond ±bound.
+fn any_beyond(bound: u64, x: i64, y: i64, z: i64) -> bool
+    ensures { λ r. ⌜ r ≡ anyBeyond bound x y z ⌝ }
+{
+    if bound < integer::magnitude(x) {
+        return true;
+    }
+    if bound < integer::magnitude(y) {
+        return true;
+    }
+    bound < integer::magnitude(z)
+}
+
+// The shade test alone: of any position and Sun, or refusal 14.
+pub fn shade_test(position: Position, sun: Direction) -> ShadeAnswer
+    ensures { λ r. ⌜ r ≡ shadeAnswer position sun ⌝ }
+{
+    if any_beyond(200_000_000, position.x, position.y, position.z) {
+        return ShadeAnswer::Refused(Refusal::ShadeRange);
+    }
+    if any_beyond(0x4000_0000, sun.x, sun.y, sun.z) {
+        return ShadeAnswer::Refused(Refusal::ShadeRange);
+    }
+    ShadeAnswer::Shaded(shade_at(position, sun))
+}
+
+// The orbit normal.
+fn normal(inclination: u32, node: u32) -> Direction
+    ensures { λ r. ⌜ NormalAt inclination node r ⌝ }
+{
+    let s = trig::sine(inclination);
+    Direction {
+        x: integer::scaled(s, trig::sine(node)),
+        y: 0 - integer::scaled(s, trig::cosine(node)),
+        z: trig::cosine(inclination),
+    }
+}
+
+// A sine held within ±2^30.
+fn held(sine: i64) -> i32
+    ensures { λ r. ⌜ HeldAt sine r ⌝ }
+{
+    if sine < -0x4000_0000 {
+        return -0x4000_0000;
+    }
+    if 0x4000_0000 < sine {
+        return 0x4000_0000;
+    }
+    sine as i32
+}
+
+// The sine of the Sun's elevation above the plane of the orbit, whose node is the drifted one. The Sun is asked to be
+// within ±2^30, as `sun_at` promises: it is for labelling.
+pub fn elevation(inclination: u32, node: u32, sun: Direction) -> i32
+    requires { ⌜ WithinOne sun ⌝ }
+    ensures { λ r. ⌜ ElevationAt inclination node sun r ⌝ }
+{
+    let n = normal(inclination, node);
+    held(dot(n.x, n.y, n.z, sun))
+}

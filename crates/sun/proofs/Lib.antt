@@ -1,0 +1,3 @@
+pub mod PartTurn
+pub mod Components
+pub mod Bounds

@@ -1,0 +1,2 @@
+pub mod Sun
+pub mod Contract

@@ -1,0 +1,133 @@
+// The Sun at a time: document 01, "Sun and shade".
+ghost use mathlib.Core.Path.{_≡_};
+ghost use mathlib.Core.Bool.{true};
+ghost use Prim.Native.Nat.{_+_, _%_, _^_, _<_, _≤_};
+ghost use lib.IntN.{pos, _*ℤ_};
+ghost use Rattle.integer.specs.Bound.{Within};
+ghost use Rattle.integer.specs.Division.{modZ};
+ghost use Rattle.time.specs.Range.{inRange};
+ghost use Rattle.trig.specs.Angle.{angleOf};
+ghost use Rattle.sun.specs.Sun.{partTurn, hourAngle, trueLongitude};
+ghost use Rattle.sun.specs.Contract.{CentreAt, DirectionAt, SunAt, SunAnswered};
+use refusal::Refusal;
+
+const HALF_TURN: i64 = 0x8000_0000;
+
+const TURN: u64 = 0x1_0000_0000;
+
+// A direction in the celestial frame, in units of 2^-30.
+pub struct Direction {
+    pub x: i64,
+    pub y: i64,
+    pub z: i64,
+}
+
+// Angles, and the direction to the Sun.
+pub struct Sun {
+    // MA
+    pub mean_anomaly: u32,
+    // ML
+    pub mean_longitude: u32,
+    // TL
+    pub true_longitude: u32,
+    // GHAA: the Greenwich hour angle of Aries.
+    pub greenwich_hour_angle: u32,
+    pub direction: Direction,
+}
+
+pub enum SunAnswer {
+    Found(Sun),
+    Refused(Refusal),
+}
+
+// A sum of angles, wrapped.
+fn wrapped(angle: i64) -> u32
+    ensures { λ r. ⌜ r ≡ modZ angle (2 ^ 32) ⌝ }
+{
+    let turns = integer::floor_div(angle, TURN);
+    turns.remainder as u32
+}
+
+// The part turn of n / d. The remainder times 2^32 passes 64 bits, so 2^32 is taken as 2^16 twice.
+fn part_turn(n: i64, d: u64) -> u32
+    requires { ⌜ (0 < d) × (d ≤ 2 ^ 37) ⌝ }
+    ensures { λ r. ⌜ r ≡ partTurn n d ⌝ }
+{
+    let turns = integer::floor_div(n, d);
+    let scaled = turns.remainder * 0x1_0000;
+    let high = scaled / d;
+    let low = scaled % d * 0x1_0000 / d;
+    (high * 0x1_0000 + low) as u32
+}
+
+// An angle of the Sun, from that at 1990 Jan 0.0 and the divisor of its part turn.
+fn mean_angle(at_epoch: u32, time: i64, divisor: u64) -> u32
+    requires { ⌜ Within 3_476_476_799 time × (0 < divisor) × (divisor ≤ 2 ^ 37) ⌝ }
+    ensures { λ r. ⌜ r ≡ (angleOf «at_epoch» + partTurn (pos 3125 *ℤ time) divisor) % 2 ^ 32 ⌝ }
+{
+    let part = part_turn(3125 * time, divisor);
+    std::num::wrapping_add_u32(trig::angle(at_epoch), part)
+}
+
+// The equation of the centre.
+fn centre(mean_anomaly: u32) -> i64
+    ensures { λ r. ⌜ CentreAt «mean_anomaly» r ⌝ }
+{
+    let twice = std::num::wrapping_add_u32(mean_anomaly, mean_anomaly);
+    let first = integer::scaled(trig::angle(19_151) as i64, trig::sine(mean_anomaly));
+    let second = integer::scaled(trig::angle(200) as i64, trig::sine(twice));
+    first + second
+}
+
+fn true_longitude(mean_longitude: u32, mean_anomaly: u32) -> u32
+    ensures { λ r. ⌜ r ≡ trueLongitude «mean_longitude» «mean_anomaly» ⌝ }
+{
+    wrapped(mean_longitude as i64 + centre(mean_anomaly))
+}
+
+fn hour_angle(mean_longitude: u32, time: i64) -> u32
+    ensures { λ r. ⌜ r ≡ hourAngle «mean_longitude» time ⌝ }
+{
+    let part = part_turn(time, 86_400);
+    wrapped(mean_longitude as i64 - HALF_TURN + part as i64)
+}
+
+fn direction_at(true_longitude: u32) -> Direction
+    ensures { λ r. ⌜ DirectionAt «true_longitude» r ⌝ }
+{
+    let s = trig::sine(true_longitude);
+    let obliquity = trig::angle(234_406);
+    Direction {
+        x: trig::cosine(true_longitude),
+        y: integer::scaled(s, trig::cosine(obliquity)),
+        z: integer::scaled(s, trig::sine(obliquity)),
+    }
+}
+
+// The Sun at a time in range: labelling has tested the time, and so has `find`.
+pub fn sun_at(time: i64) -> Sun
+    requires { ⌜ inRange time ≡ true ⌝ }
+    ensures { λ r. ⌜ SunAt time r ⌝ }
+{
+    let mean_anomaly = mean_angle(3_566_349, time, 98_620_103_151);
+    let mean_longitude = mean_angle(2_794_033, time, 98_615_393_676);
+    let true_longitude = true_longitude(mean_longitude, mean_anomaly);
+    Sun {
+        mean_anomaly,
+        mean_longitude,
+        true_longitude,
+        greenwich_hour_angle: hour_angle(mean_longitude, time),
+        direction: direction_at(true_longitude),
+    }
+}
+
+// The Sun at any time, or refusal 8.
+pub fn find(time: i64) -> SunAnswer
+    ensures { λ r. ⌜ SunAnswered time r ⌝ }
+{
+    if time::in_range(time) {
+        SunAnswer::Found(sun_at(time))
+    } else {
+        SunAnswer::Refused(Refusal::Time)
+    }
+}
