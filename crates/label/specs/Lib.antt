@@ -1,0 +1,4 @@
+pub mod Sides
+pub mod Layout
+pub mod Rules
+pub mod Codec
