@@ -1,0 +1,5 @@
+pub mod Sequence
+pub mod Counts
+pub mod Trailer
+pub mod File
+pub mod Reading
