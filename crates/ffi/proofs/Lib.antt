@@ -1,0 +1,5 @@
+pub mod Narrow
+pub mod Fields
+pub mod Endings
+pub mod Placed
+pub mod Days

@@ -1,0 +1,33 @@
+-- How a call of the C interface ends: include/yurdelmiz.h, "Status". Assumes nothing.
+use Prim.Native.Nat.{ℕ, _+_, _*_, _^_}
+use mathlib.Core.Bool.{Bool, true, false}
+use mathlib.Core.List.{List, [], _++_, _∷_}
+
+-- the status returned, and the bytes of the buffer `answer`, in labelling `output`, afterwards
+pub record Call : Type 0 where
+  pub status : ℕ
+  pub answer : List ℕ
+
+-- what is asked for is refused with a status, or given in bytes
+pub data Outcome : Type 0 where
+  refused : ℕ → Outcome
+  given : List ℕ → Outcome
+
+-- a refusal leaves the buffer as it was; with status 0 the buffer has the bytes given
+abbrev pub ended : Outcome → List ℕ → Call
+ended (refused status) buffer = record { status = status; answer = buffer }
+ended (given bytes) buffer = record { status = 0; answer = bytes }
+
+-- the lengths of the buffers are looked at before all else: where one is not the header's, 255, and nothing is changed
+unfoldable pub callOf : Bool → Outcome → List ℕ → Call
+callOf lengths outcome buffer =
+    elim lengths [ true ↦ ended outcome buffer | false ↦ record { status = 255; answer = buffer } ]
+
+-- the status of a refusal that has a place: the number in the lower half, the place in the upper
+abbrev pub statusAt : ℕ → ℕ → ℕ
+statusAt number place = number + 2 ^ 32 * place
+
+-- fields one after another
+abbrev pub fields : List (List ℕ) → List ℕ
+fields [] = []
+fields (f ∷ fs) = f ++ fields fs

@@ -1,0 +1,188 @@
+/* The C interface of Yurdelmiz: satellite telemetry labelled by document 01.
+ *
+ * Every function takes anything its types allow and refuses what document 01 refuses. Buffers are
+ * byte slices, a pointer followed by its length; numbers in them are little-endian with no padding.
+ * A slice's pointer must be valid for its length, and no slice that a function writes may overlap
+ * another of the same call. A slice of length 0 is not touched; its pointer may not be null.
+ *
+ * Units: an angle is a whole number, of which 2^32 make a turn. Sines and direction components
+ * count 2^-30. A time is in seconds from 1990 Jan 0.0 (31 December 1989, 0h), with 86,400 a day.
+ *
+ * Status: 0 is accepted. A refusal is its number in document 01's table, below, and then no byte of
+ * any slice is changed. YURDELMIZ_BAD_BUFFER is no refusal of the table: `elements` or `answer` has
+ * another length than this header gives; that is looked at before all else, and nothing is changed.
+ *
+ * No function keeps a pointer or uses anything but its arguments: calls may run in parallel on
+ * separate buffers.
+ */
+#ifndef YURDELMIZ_H
+#define YURDELMIZ_H
+
+#include <stddef.h>
+#include <stdint.h>
+
+#ifdef __cplusplus
+extern "C" {
+#endif
+
+enum {
+    YURDELMIZ_ACCEPTED = 0,
+    /* Eccentricity above 9,000,000 (units of 10^-7). */
+    YURDELMIZ_ECCENTRICITY = 1,
+    /* Semi-major axis outside 6,600,000 to 100,000,000 metres. */
+    YURDELMIZ_SEMI_MAJOR_AXIS = 2,
+    /* Perigee distance below 6,478,000 metres. */
+    YURDELMIZ_PERIGEE = 3,
+    /* Inclination above half a turn, 2^31. */
+    YURDELMIZ_INCLINATION = 4,
+    /* Mean motion outside 20,000,000 to 1,700,000,000 (10^-8 revolutions a day). */
+    YURDELMIZ_MEAN_MOTION = 5,
+    /* Drift rate of node or perigee beyond +-200,000 (10^-4 degree a day). */
+    YURDELMIZ_DRIFT_RATE = 6,
+    /* Epoch revolution above 99,999. */
+    YURDELMIZ_EPOCH_REVOLUTION = 7,
+    /* Epoch or time outside -2,834,956,800 to 3,476,476,799, or over 31,622,400 s apart. */
+    YURDELMIZ_TIME = 8,
+    /* The halving did not end with the mean anomaly between its two neighbours. */
+    YURDELMIZ_KEPLER = 9,
+    /* Telemetry length no multiple of 16, or over 1,024 records. */
+    YURDELMIZ_TELEMETRY = 10,
+    /* Output shorter than 24 bytes a record plus 16. */
+    YURDELMIZ_OUTPUT = 11,
+    /* Label file: fewer than 16 bytes, a length beyond the buffer, or a trailer that does not fit. */
+    YURDELMIZ_FILE = 12,
+    /* Label file: a label breaks a field rule, or the counts are not those of the labels. */
+    YURDELMIZ_LABEL = 13,
+    /* Position component beyond +-200,000,000, or Sun component beyond +-2^30. */
+    YURDELMIZ_COMPONENT = 14,
+    /* No refusal of the table: `elements` or `answer` is not of the length given here. */
+    YURDELMIZ_BAD_BUFFER = 255
+};
+
+/* Lengths of `elements` and of each `answer`, in bytes. */
+enum {
+    YURDELMIZ_ELEMENTS_BYTES = 48,
+    YURDELMIZ_KEPLER_BYTES = 8,
+    YURDELMIZ_SUN_BYTES = 28,
+    YURDELMIZ_POSITION_BYTES = 68,
+    YURDELMIZ_SHADE_BYTES = 1,
+    YURDELMIZ_READ_BYTES = 12
+};
+
+/* The two parts of what yurdelmiz_label and yurdelmiz_read return: the status, and the place of a
+ * refusal, which is the number of the record or label from 0, and 0 where none applies. */
+#define YURDELMIZ_STATUS(result) ((uint32_t)((result) & 0xffffffffu))
+#define YURDELMIZ_PLACE(result) ((uint32_t)((result) >> 32))
+
+/* S(angle) and C(angle), from -2^30 to 2^30. */
+int64_t yurdelmiz_sine(uint32_t angle);
+int64_t yurdelmiz_cosine(uint32_t angle);
+
+/* Solves Kepler's equation for a mean anomaly. Refusals 1, 9.
+ *
+ *   answer, 8 bytes:
+ *     0  u32  eccentric anomaly E
+ *     4  u32  halvings made, 32 or 0
+ */
+uint32_t yurdelmiz_kepler(uint32_t eccentricity, uint32_t mean_anomaly,
+                          uint8_t *answer, size_t answer_len);
+
+/* The Sun at a time. Refusal 8, for the time's range.
+ *
+ *   answer, 28 bytes:
+ *     0  u32  MA, mean anomaly
+ *     4  u32  ML, mean longitude
+ *     8  u32  TL, true longitude
+ *    12  u32  GHAA, Greenwich hour angle of Aries
+ *    16  i32  direction x
+ *    20  i32  direction y
+ *    24  i32  direction z
+ */
+uint32_t yurdelmiz_sun(int64_t time, uint8_t *answer, size_t answer_len);
+
+/* The satellite at a time. Refusals 1 to 7 for the elements, 8 for the epoch, then 8, 9.
+ *
+ *   elements, 48 bytes:
+ *     0  i64  epoch
+ *     8  u32  eccentricity, 10^-7
+ *    12  u32  semi-major axis, metres
+ *    16  u32  inclination
+ *    20  u32  right ascension of the ascending node at the epoch
+ *    24  u32  argument of perigee at the epoch
+ *    28  u32  mean anomaly at the epoch
+ *    32  u32  mean motion, 10^-8 revolutions a day
+ *    36  i32  drift rate of the node, 10^-4 degree a day
+ *    40  i32  drift rate of the perigee, 10^-4 degree a day
+ *    44  u32  revolution at the epoch
+ *
+ *   answer, 68 bytes; positions in metres:
+ *     0  i32  revolution
+ *     4  u32  eccentric anomaly E
+ *     8  u32  halvings made, 32 or 0
+ *    12  u32  radius, metres
+ *    16  i64  celestial position x
+ *    24  i64  celestial position y
+ *    32  i64  celestial position z
+ *    40  u32  node as drifted
+ *    44  i64  Earth-fixed position x, at the GHAA of the time
+ *    52  i64  Earth-fixed position y
+ *    60  i64  Earth-fixed position z, which is the celestial one
+ */
+uint32_t yurdelmiz_position(const uint8_t *elements, size_t elements_len, int64_t time,
+                            uint8_t *answer, size_t answer_len);
+
+/* Whether a position (metres) is in the Earth's shadow. Refusal 14.
+ *
+ *   answer, 1 byte:
+ *     0  u8   0 lit, 1 dark
+ */
+uint32_t yurdelmiz_shade(int64_t x, int64_t y, int64_t z,
+                         int64_t sun_x, int64_t sun_y, int64_t sun_z,
+                         uint8_t *answer, size_t answer_len);
+
+/* Labels a day's telemetry: 24 bytes a record from the start of `output`, then the trailer's 16.
+ * What lies behind the trailer is unchanged. Refusals 1 to 7 for the elements, 8 for the epoch, 10,
+ * 11, all at place 0; then 8, 9 for each record in order, at its place. `elements` as above.
+ *
+ *   telemetry, 16 bytes a record, at most 1,024 records:
+ *     0  i64  time
+ *     8  f32  volts
+ *    12  f32  amperes
+ *
+ *   output, 24 bytes a label:
+ *     0  i64  time
+ *     8  i32  revolution
+ *    12  u8   side: 0 withheld, 1 training, 2 test
+ *    13  u8   shade: 0 lit, 1 dark
+ *    14  u8   reading: 0 missing, 1 valid, 2 saturated
+ *    15  u8   0
+ *    16  i32  sine of the Sun's elevation above the orbit plane
+ *    20  f32  watts, 0 where the reading is not valid
+ *   and the trailer, 16 bytes:
+ *     0  u32  labels
+ *     4  u32  training labels
+ *     8  u32  test labels
+ *    12  u32  distance from the end of the file back to the first label
+ */
+uint64_t yurdelmiz_label(const uint8_t *elements, size_t elements_len,
+                         const uint8_t *telemetry, size_t telemetry_len,
+                         uint8_t *output, size_t output_len);
+
+/* Reads the label file in the first `length` bytes of `file`. Bytes ahead of the first label belong
+ * to others; the first label is at length - 24 * labels - 16. Refusal 12 at place 0, also where
+ * `length` is beyond `file_len`; 13 at the first label that breaks a field rule, or at the number
+ * of labels where the trailer's counts are not those of the labels.
+ *
+ *   answer, 12 bytes:
+ *     0  u32  labels
+ *     4  u32  training labels
+ *     8  u32  test labels
+ */
+uint64_t yurdelmiz_read(const uint8_t *file, size_t file_len, size_t length,
+                        uint8_t *answer, size_t answer_len);
+
+#ifdef __cplusplus
+}
+#endif
+
+#endif

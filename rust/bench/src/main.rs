@@ -1,0 +1,263 @@
+//! Times the proved library beside the reference, in one run.
+//!
+//!     bench [REPEATS]
+//!     bench once RECORDS      labels and reads one day, for a counter of instructions
+//!
+//! Each repeat times both, one after the other, and gives a ratio; printed are the median times,
+//! the median ratio, and the least and greatest ratio over the repeats.
+
+use std::hint::black_box;
+use std::time::{Duration, Instant};
+
+/// How long one timing lasts, about.
+const TIMING: Duration = Duration::from_millis(20);
+
+const DAY_RECORDS: usize = 1_024;
+
+/// Oscar-10, from source document 001.
+const ELEMENTS: reference::orbit::Elements = reference::orbit::Elements {
+    eccentricity: 6_100_000,
+    semi_major_axis: 26_100_000,
+    inclination: 305_419_896,
+    node: 1_445_972_322,
+    argument_of_perigee: 478_411_634,
+    mean_anomaly: 1_542_609_087,
+    mean_motion: 205_890_000,
+    node_rate: -1_724,
+    perigee_rate: 2_834,
+    epoch_revolution: 1_627,
+    epoch: -138_406_500,
+};
+
+const LIBRARY_ELEMENTS: yurdelmiz::Elements = yurdelmiz::Elements {
+    eccentricity: ELEMENTS.eccentricity,
+    semi_major_axis: ELEMENTS.semi_major_axis,
+    inclination: ELEMENTS.inclination,
+    node: ELEMENTS.node,
+    argument_of_perigee: ELEMENTS.argument_of_perigee,
+    mean_anomaly: ELEMENTS.mean_anomaly,
+    mean_motion: ELEMENTS.mean_motion,
+    node_rate: ELEMENTS.node_rate,
+    perigee_rate: ELEMENTS.perigee_rate,
+    epoch_revolution: ELEMENTS.epoch_revolution,
+    epoch: ELEMENTS.epoch,
+};
+
+/// A day of records, 84 seconds apart.
+fn telemetry(records: usize) -> Vec<u8> {
+    let mut bytes = Vec::with_capacity(records * 16);
+    for record in 0..records {
+        let time = ELEMENTS.epoch + 84 * record as i64;
+        bytes.extend(time.to_le_bytes());
+        bytes.extend((14.0 + record as f32 / 1_000.0).to_le_bytes());
+        bytes.extend((0.5 - record as f32 / 2_000.0).to_le_bytes());
+    }
+    bytes
+}
+
+/// Nanoseconds a call takes, over `calls` calls.
+fn time(calls: u32, call: &mut dyn FnMut()) -> f64 {
+    let start = Instant::now();
+    for _ in 0..calls {
+        call();
+    }
+    start.elapsed().as_secs_f64() * 1e9 / f64::from(calls)
+}
+
+/// How many calls last about `TIMING`.
+fn calls_for(call: &mut dyn FnMut()) -> u32 {
+    let mut calls = 1;
+    loop {
+        let took = time(calls, call) * f64::from(calls);
+        if took >= TIMING.as_nanos() as f64 / 4.0 {
+            return (f64::from(calls) * TIMING.as_nanos() as f64 / took).ceil() as u32;
+        }
+        calls *= 2;
+    }
+}
+
+fn median(values: &mut [f64]) -> f64 {
+    values.sort_by(f64::total_cmp);
+    let middle = values.len() / 2;
+    if values.len() % 2 == 1 {
+        values[middle]
+    } else {
+        (values[middle - 1] + values[middle]) / 2.0
+    }
+}
+
+/// Median times in nanoseconds, and the ratios' median, least and greatest.
+struct Comparison {
+    library: f64,
+    reference: f64,
+    ratio: f64,
+    least: f64,
+    greatest: f64,
+}
+
+fn compare(repeats: usize, library: &mut dyn FnMut(), reference: &mut dyn FnMut()) -> Comparison {
+    let (library_calls, reference_calls) = (calls_for(library), calls_for(reference));
+    let mut times = (Vec::new(), Vec::new());
+    let mut ratios = Vec::new();
+    for _ in 0..repeats {
+        let of_library = time(library_calls, library);
+        let of_reference = time(reference_calls, reference);
+        times.0.push(of_library);
+        times.1.push(of_reference);
+        ratios.push(of_library / of_reference);
+    }
+    let ratio = median(&mut ratios);
+    Comparison {
+        library: median(&mut times.0),
+        reference: median(&mut times.1),
+        ratio,
+        least: ratios[0],
+        greatest: ratios[ratios.len() - 1],
+    }
+}
+
+fn print(name: &str, comparison: &Comparison) {
+    let Comparison { library, reference, ratio, least, greatest } = comparison;
+    println!(
+        "{name:<26} {:>10.3} us {:>10.3} us {ratio:>7.2} ({least:.2} to {greatest:.2})",
+        library / 1e3,
+        reference / 1e3,
+    );
+}
+
+/// Records that labelling goes through, a day after a day, so that no branch is foreseen from the
+/// same day before.
+const STOCK: usize = 16 * DAY_RECORDS;
+
+/// The days of a stock of telemetry, one after another and over again.
+struct Days<'a> {
+    stock: &'a [u8],
+    size: usize,
+    next: usize,
+}
+
+impl<'a> Days<'a> {
+    fn new(stock: &'a [u8], records: usize) -> Self {
+        Days { stock, size: records * 16, next: 0 }
+    }
+
+    fn day(&mut self) -> &'a [u8] {
+        let day = &self.stock[self.next..self.next + self.size];
+        self.next = (self.next + self.size) % self.stock.len();
+        day
+    }
+}
+
+fn label(repeats: usize, records: usize) -> Comparison {
+    let stock = telemetry(STOCK);
+    let mut outputs = [vec![0; records * 24 + 16], vec![0; records * 24 + 16]];
+    let [library_output, reference_output] = &mut outputs;
+    let (mut library_days, mut reference_days) =
+        (Days::new(&stock, records), Days::new(&stock, records));
+    let mut library = |day: &[u8]| {
+        let counts = yurdelmiz::label_day(&LIBRARY_ELEMENTS, black_box(day), library_output);
+        black_box(counts.expect("an accepted day"));
+    };
+    let mut reference = |day: &[u8]| {
+        let counts = reference::file::label_day(&ELEMENTS, black_box(day), reference_output);
+        black_box(counts.expect("an accepted day"));
+    };
+    let comparison = compare(repeats, &mut || library(library_days.day()), &mut || {
+        reference(reference_days.day())
+    });
+    let day = Days::new(&stock, records).day();
+    library(day);
+    reference(day);
+    assert_eq!(outputs[0], outputs[1], "the two label files");
+    comparison
+}
+
+/// Labels a day and reads it, once by the library and once by the reference: to be run under a
+/// counter of instructions.
+fn once(records: usize) {
+    let day = telemetry(records);
+    let mut files = [vec![0; records * 24 + 16], vec![0; records * 24 + 16]];
+    let [library, reference] = &mut files;
+    black_box(yurdelmiz::label_day(&LIBRARY_ELEMENTS, &day, library).expect("an accepted day"));
+    black_box(reference::file::label_day(&ELEMENTS, &day, reference).expect("an accepted day"));
+    black_box(yurdelmiz::read(library, library.len()).expect("a sound file"));
+    black_box(reference::file::read(reference, reference.len()).expect("a sound file"));
+    assert_eq!(files[0], files[1], "the two label files");
+}
+
+fn read(repeats: usize) -> Comparison {
+    let mut file = vec![0; DAY_RECORDS * 24 + 16];
+    reference::file::label_day(&ELEMENTS, &telemetry(DAY_RECORDS), &mut file)
+        .expect("an accepted day");
+    compare(
+        repeats,
+        &mut || {
+            let counts = yurdelmiz::read(black_box(&file), file.len());
+            black_box(counts.expect("a sound file"));
+        },
+        &mut || {
+            let read = reference::file::read(black_box(&file), file.len());
+            black_box(read.expect("a sound file"));
+        },
+    )
+}
+
+/// One solution, over mean anomalies all around the orbit.
+fn kepler(repeats: usize) -> Comparison {
+    const STEP: u32 = 0x9e37_79b9;
+    let (mut first, mut second) = (0_u32, 0_u32);
+    compare(
+        repeats,
+        &mut || {
+            first = first.wrapping_add(STEP);
+            let anomaly = yurdelmiz::kepler(ELEMENTS.eccentricity, black_box(first));
+            black_box(anomaly.expect("an accepted eccentricity"));
+        },
+        &mut || {
+            second = second.wrapping_add(STEP);
+            let anomaly = reference::kepler::solve(ELEMENTS.eccentricity, black_box(second));
+            black_box(anomaly.expect("an accepted eccentricity"));
+        },
+    )
+}
+
+fn usage() -> ! {
+    eprintln!("usage: bench [REPEATS]\n       bench once RECORDS");
+    std::process::exit(2);
+}
+
+fn main() {
+    let words: Vec<String> = std::env::args().skip(1).collect();
+    let repeats = match words.iter().map(String::as_str).collect::<Vec<_>>()[..] {
+        [] => 21,
+        ["once", records] => match records.parse() {
+            Ok(records) if records <= DAY_RECORDS => return once(records),
+            _ => usage(),
+        },
+        [word] => match word.parse() {
+            Ok(repeats) if repeats > 0 => repeats,
+            _ => usage(),
+        },
+        _ => usage(),
+    };
+    println!("{repeats} repeats: library, reference, library / reference (least to greatest)");
+    print("Kepler's equation", &kepler(repeats));
+    print("reading 1,024 labels", &read(repeats));
+    print("labelling 1,024 records", &label(repeats, DAY_RECORDS));
+
+    println!("growth of labelling, a record: library, reference, library / reference");
+    let mut records = 16;
+    while records <= DAY_RECORDS {
+        let Comparison { library, reference, ratio, least, greatest } = label(repeats, records);
+        let share = |nanoseconds: f64| nanoseconds / records as f64;
+        let one = Comparison {
+            library: share(library),
+            reference: share(reference),
+            ratio,
+            least,
+            greatest,
+        };
+        print(&format!("{records} records"), &one);
+        records *= 2;
+    }
+}

@@ -1,0 +1,118 @@
+//! Checks of what the C interface does with lent bytes: a refusal changes none, a wrong length is
+//! told apart from every refusal, and nothing outside an answer is written.
+
+use yurdelmiz::ffi;
+
+use crate::inputs;
+use crate::numbers::library_elements;
+use crate::random::Random;
+use crate::report::Report;
+
+/// Bytes on both sides of an answer.
+const GUARD: usize = 16;
+
+/// An answer's length: mostly the right one.
+fn answer_length(random: &mut Random, right: usize) -> usize {
+    match random.below(4) {
+        0 => random.index(100),
+        1 => right + 1 - 2 * random.index(2),
+        _ => right,
+    }
+}
+
+/// Calls with an answer of a random length, and checks which bytes changed.
+fn check_answer(
+    random: &mut Random,
+    report: &mut Report,
+    name: &str,
+    right: usize,
+    sound_inputs: bool,
+    call: impl FnOnce(*mut u8, usize) -> u32,
+) {
+    let length = answer_length(random, right);
+    let before = random.bytes(GUARD + length + GUARD);
+    let mut after = before.clone();
+    let status = call(after[GUARD..GUARD + length].as_mut_ptr(), length);
+
+    let input = (name, length);
+    let bad_buffer = length != right || !sound_inputs;
+    report.equal(&input, "bad buffer", status == ffi::BAD_BUFFER, bad_buffer);
+    if status != 0 {
+        report.bytes(&input, "answer after a refusal", &after, &before);
+    } else {
+        report.bytes(&input, "bytes ahead", &after[..GUARD], &before[..GUARD]);
+        report.bytes(&input, "bytes behind", &after[GUARD + length..], &before[GUARD + length..]);
+    }
+}
+
+/// Elements' bytes, at times too many or too few.
+fn element_bytes(random: &mut Random) -> (Vec<u8>, bool) {
+    let mut bytes = library_elements(&inputs::elements(random)).to_bytes().to_vec();
+    if random.one_in(6) {
+        bytes.resize(random.index(100), 0);
+    }
+    let sound = bytes.len() == ffi::ELEMENTS_BYTES;
+    (bytes, sound)
+}
+
+fn label_with_bad_elements(random: &mut Random, report: &mut Report) {
+    let (elements, sound) = element_bytes(random);
+    if sound {
+        return;
+    }
+    let before = random.bytes(64);
+    let mut output = before.clone();
+    let telemetry = random.bytes(32);
+    // SAFETY: the slices are `elements`, `telemetry` and `output`.
+    let result = unsafe {
+        ffi::yurdelmiz_label(
+            elements.as_ptr(),
+            elements.len(),
+            telemetry.as_ptr(),
+            telemetry.len(),
+            output.as_mut_ptr(),
+            output.len(),
+        )
+    };
+    let input = ("label", elements.len());
+    report.equal(&input, "result", result, u64::from(ffi::BAD_BUFFER));
+    report.bytes(&input, "output", &output, &before);
+}
+
+pub fn lent(random: &mut Random, report: &mut Report) {
+    let (e, m) = (inputs::eccentricity(random), inputs::angle(random));
+    check_answer(random, report, "kepler", ffi::KEPLER_BYTES, true, |answer, length| {
+        // SAFETY: `answer` is valid for `length`, here and below.
+        unsafe { ffi::yurdelmiz_kepler(e, m, answer, length) }
+    });
+
+    let time = inputs::any_time(random);
+    check_answer(random, report, "sun", ffi::SUN_BYTES, true, |answer, length| unsafe {
+        ffi::yurdelmiz_sun(time, answer, length)
+    });
+
+    let (elements, sound) = element_bytes(random);
+    check_answer(random, report, "position", ffi::POSITION_BYTES, sound, |answer, length| unsafe {
+        ffi::yurdelmiz_position(elements.as_ptr(), elements.len(), time, answer, length)
+    });
+
+    let [x, y, z] = [0; 3].map(|_| random.between(-220_000_000, 220_000_000));
+    let [sx, sy, sz] = [0; 3].map(|_| random.between(-1_100_000_000, 1_100_000_000));
+    check_answer(random, report, "shade", ffi::SHADE_BYTES, true, |answer, length| unsafe {
+        ffi::yurdelmiz_shade(x, y, z, sx, sy, sz, answer, length)
+    });
+
+    // No labels, and bytes of others ahead of the trailer: accepted until a byte is damaged.
+    let mut file = random.bytes(20);
+    file.extend([[0; 4], [0; 4], [0; 4], [16, 0, 0, 0]].concat());
+    if random.one_in(2) {
+        let at = random.index(file.len());
+        file[at] ^= 1;
+    }
+    check_answer(random, report, "read", ffi::READ_BYTES, true, |answer, length| unsafe {
+        // The place of a file without labels is 0, so the result is the status.
+        ffi::yurdelmiz_read(file.as_ptr(), file.len(), file.len(), answer, length) as u32
+    });
+
+    label_with_bad_elements(random, report);
+}

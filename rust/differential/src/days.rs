@@ -1,0 +1,36 @@
+//! Comparisons of labelled days, byte by byte.
+
+use crate::inputs;
+use crate::numbers::library_elements;
+use crate::random::Random;
+use crate::report::{Hex, Report};
+
+pub fn label(random: &mut Random, report: &mut Report) {
+    let (elements, telemetry) = if random.one_in(8) {
+        inputs::facing_sun(random)
+    } else {
+        let elements = inputs::elements(random);
+        (elements, inputs::telemetry(random, &elements))
+    };
+    let room = inputs::room(random, telemetry.len());
+    let before = random.bytes(room);
+    let input = (elements, Hex(&telemetry), room);
+
+    let lent = telemetry.clone();
+    let mut library_output = before.clone();
+    let library = yurdelmiz::label_day(&library_elements(&elements), &lent, &mut library_output)
+        .map(|counts| (counts.labels, counts.training, counts.test))
+        .map_err(|refused| (refused.refusal.number(), refused.place));
+    let mut reference_output = before.clone();
+    let reference = reference::file::label_day(&elements, &telemetry, &mut reference_output)
+        .map(|counts| (counts.labels, counts.training, counts.test))
+        .map_err(|refused| (refused.refusal.number(), refused.place));
+
+    let refused = reference.is_err();
+    report.outcomes(&input, library, reference);
+    report.bytes(&input, "output", &library_output, &reference_output);
+    report.bytes(&input, "telemetry", &lent, &telemetry);
+    if refused {
+        report.bytes(&input, "output after a refusal", &library_output, &before);
+    }
+}

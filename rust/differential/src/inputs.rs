@@ -1,0 +1,232 @@
+//! Random and edge inputs.
+
+use reference::orbit::Elements;
+
+use crate::random::Random;
+
+pub const TIME_MIN: i64 = -2_834_956_800;
+pub const TIME_MAX: i64 = 3_476_476_799;
+const SPAN_MAX: i64 = 31_622_400;
+
+/// Any number: uniform, small, or next to an edge.
+pub fn number(random: &mut Random, edges: &[u32]) -> u32 {
+    match random.below(4) {
+        0 => random.pick(edges).wrapping_add(random.below(5) as u32).wrapping_sub(2),
+        1 => random.u32() >> random.below(32),
+        _ => random.u32(),
+    }
+}
+
+pub fn angle(random: &mut Random) -> u32 {
+    number(random, &[0, 1 << 30, 1 << 31, 3 << 30])
+}
+
+/// From `low` to `high`, often at or near one of them.
+fn within(random: &mut Random, low: i64, high: i64) -> i64 {
+    match random.below(6) {
+        0 => (low + random.below(3) as i64).min(high),
+        1 => (high - random.below(3) as i64).max(low),
+        _ => random.between(low, high),
+    }
+}
+
+pub fn eccentricity(random: &mut Random) -> u32 {
+    if random.one_in(16) {
+        return number(random, &[0, 9_000_000, 10_000_000]);
+    }
+    accepted_eccentricity(random)
+}
+
+fn accepted_eccentricity(random: &mut Random) -> u32 {
+    match random.below(16) {
+        0 | 1 => 0,
+        2 => random.between(0, 1_000) as u32,
+        // The only one for which a square root in 53-bit floats gives another minor axis.
+        3 => 606_756,
+        _ => within(random, 0, 9_000_000) as u32,
+    }
+}
+
+/// The least semi-major axis that the perigee allows.
+fn least_axis(eccentricity: u32) -> i64 {
+    let above_perigee = 10_000_000 - i64::from(eccentricity);
+    let least = (64_780_000_000_000 + above_perigee - 1) / above_perigee;
+    least.max(6_600_000)
+}
+
+fn accepted_elements(random: &mut Random) -> Elements {
+    let eccentricity = accepted_eccentricity(random);
+    Elements {
+        eccentricity,
+        semi_major_axis: within(random, least_axis(eccentricity), 100_000_000) as u32,
+        inclination: within(random, 0, 1 << 31) as u32,
+        node: angle(random),
+        argument_of_perigee: angle(random),
+        mean_anomaly: angle(random),
+        mean_motion: within(random, 20_000_000, 1_700_000_000) as u32,
+        node_rate: within(random, -200_000, 200_000) as i32,
+        perigee_rate: within(random, -200_000, 200_000) as i32,
+        epoch_revolution: within(random, 0, 99_999) as u32,
+        epoch: within(random, TIME_MIN, TIME_MAX),
+    }
+}
+
+/// Takes one element out of range, or to its edge.
+fn damage(random: &mut Random, elements: &mut Elements) {
+    let rates = [200_000_u32, 200_001, 200_000_u32.wrapping_neg(), 200_001_u32.wrapping_neg()];
+    match random.below(8) {
+        0 => elements.eccentricity = number(random, &[9_000_000, 10_000_000]),
+        1 => elements.semi_major_axis = number(random, &[6_600_000, 100_000_000]),
+        2 => {
+            elements.semi_major_axis = (least_axis(elements.eccentricity.min(9_000_000)) - 1) as u32
+        }
+        3 => elements.inclination = number(random, &[1 << 31]),
+        4 => elements.mean_motion = number(random, &[20_000_000, 1_700_000_000]),
+        5 if random.one_in(2) => elements.node_rate = number(random, &rates) as i32,
+        5 => elements.perigee_rate = number(random, &rates) as i32,
+        6 => elements.epoch_revolution = number(random, &[99_999]),
+        _ => elements.epoch = any_time(random),
+    }
+}
+
+/// Elements, of which one set in five has been damaged, perhaps more than once.
+pub fn elements(random: &mut Random) -> Elements {
+    let mut elements = accepted_elements(random);
+    if random.one_in(5) {
+        damage(random, &mut elements);
+        while random.one_in(3) {
+            damage(random, &mut elements);
+        }
+    }
+    elements
+}
+
+/// Any time: in range, next to its edges, or far out.
+pub fn any_time(random: &mut Random) -> i64 {
+    match random.below(16) {
+        0 => random.pick(&[TIME_MIN - 1, TIME_MIN, TIME_MAX, TIME_MAX + 1]),
+        1 => random.pick(&[i64::MIN, i64::MIN + 1, i64::MAX, i64::from(i32::MIN), 1 << 32]),
+        2 => random.u64() as i64 >> random.below(64),
+        3 => random.between(-200_000, 200_000),
+        _ => random.between(TIME_MIN, TIME_MAX),
+    }
+}
+
+/// A time that labelling with this epoch would take, where there is one.
+pub fn near_time(random: &mut Random, epoch: i64) -> i64 {
+    if !(TIME_MIN..=TIME_MAX).contains(&epoch) {
+        return any_time(random);
+    }
+    let low = (epoch - SPAN_MAX).max(TIME_MIN);
+    let high = (epoch + SPAN_MAX).min(TIME_MAX);
+    match random.below(4) {
+        0 => within(random, low, high),
+        1 => (epoch + random.between(-100_000, 100_000)).clamp(low, high),
+        _ => random.between(low, high),
+    }
+}
+
+/// A time for these elements, now and then one that is refused.
+pub fn time(random: &mut Random, epoch: i64) -> i64 {
+    match random.below(16) {
+        0 => any_time(random),
+        1 => epoch.saturating_add(random.pick(&[SPAN_MAX, SPAN_MAX + 1])),
+        2 => epoch.saturating_sub(random.pick(&[SPAN_MAX, SPAN_MAX + 1])),
+        _ => near_time(random, epoch),
+    }
+}
+
+/// The bits of a volts or amperes number.
+pub fn reading_bits(random: &mut Random) -> u32 {
+    let sign = (random.below(2) as u32) << 31;
+    let magnitude = match random.below(8) {
+        // Infinity, and NaNs with any payload.
+        0 => 0x7f80_0000,
+        1 => 0x7f80_0001 + random.below(0x7f_ffff) as u32,
+        // Zero and numbers below the normal ones.
+        2 => 0,
+        3 => random.below(0x80_0000) as u32,
+        // Around the square root of the greatest number, and the greatest.
+        4 => 0x5f7f_ffff + random.below(3) as u32,
+        5 => 0x7f7f_ffff - random.below(3) as u32,
+        // Some volts.
+        6 => 0x4000_0000 + random.below(0x200_0000) as u32,
+        _ => random.u32() >> 1,
+    };
+    sign | magnitude
+}
+
+/// How many records a day has: mostly few.
+fn records(random: &mut Random) -> usize {
+    match random.below(128) {
+        0 => 1_024,
+        1 => random.between(65, 1_024) as usize,
+        2 => random.between(1_025, 1_030) as usize,
+        3..=15 => 0,
+        16..=63 => random.between(9, 64) as usize,
+        _ => random.between(1, 8) as usize,
+    }
+}
+
+/// Adds a record.
+fn record(random: &mut Random, time: i64, telemetry: &mut Vec<u8>) {
+    telemetry.extend(time.to_le_bytes());
+    telemetry.extend(reading_bits(random).to_le_bytes());
+    telemetry.extend(reading_bits(random).to_le_bytes());
+}
+
+/// A day's telemetry for these elements: at times ragged, or with a record that is refused.
+pub fn telemetry(random: &mut Random, elements: &Elements) -> Vec<u8> {
+    let records = records(random);
+    let bad = random.one_in(6).then(|| random.index(records.max(1)));
+    let mut bytes = Vec::with_capacity(records * 16);
+    for number in 0..records {
+        let time = if bad.is_some_and(|bad| number >= bad && random.one_in(2)) {
+            time(random, elements.epoch)
+        } else {
+            near_time(random, elements.epoch)
+        };
+        record(random, time, &mut bytes);
+    }
+    if random.one_in(16) {
+        let length = bytes.len() + random.index(16);
+        bytes.resize(length, 0x5a);
+    }
+    bytes
+}
+
+/// A day on which the orbit's normal points at the Sun or away from it, so that the elevation sine
+/// meets its bounds.
+pub fn facing_sun(random: &mut Random) -> (Elements, Vec<u8>) {
+    use std::f64::consts::{FRAC_PI_2, TAU};
+
+    let mut elements = accepted_elements(random);
+    elements.epoch = random.between(TIME_MIN + 60, TIME_MAX - 60);
+    let sun = reference::sun::sun(elements.epoch).expect("a time in range").direction;
+    let [x, y, z] = [sun.x, sun.y, sun.z].map(|component| component as f64 / f64::from(1 << 30));
+    let angle = |radians: f64| ((radians / TAU).rem_euclid(1.0) * 4_294_967_296.0) as u32;
+    let away = random.one_in(2);
+    let declination = if away { -z.asin() } else { z.asin() };
+    let right_ascension = if away { f64::atan2(-y, -x) } else { f64::atan2(y, x) };
+    elements.inclination = angle(FRAC_PI_2 - declination);
+    elements.node = angle(right_ascension + FRAC_PI_2);
+    elements.node_rate = 0;
+
+    let mut telemetry = Vec::new();
+    for _ in 0..8 {
+        let time = elements.epoch + random.between(-60, 60);
+        record(random, time, &mut telemetry);
+    }
+    (elements, telemetry)
+}
+
+/// Room for the output: enough, a byte short, or something else.
+pub fn room(random: &mut Random, telemetry: usize) -> usize {
+    let exact = telemetry / 16 * 24 + 16;
+    match random.below(16) {
+        0 => exact - 1,
+        1 => random.index(exact),
+        2..=7 => exact + random.index(100),
+        _ => exact,
+    }
+}

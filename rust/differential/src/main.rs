@@ -1,0 +1,80 @@
+//! Compares the proved library with the reference on random, edge and damaged inputs.
+//!
+//!     differential [--seed N] [--count N]
+//!
+//! Each cheap subject gets `count` comparisons (1,000,000 where none is given), labelling and
+//! reading a hundredth of it in days and files. The same seed gives the same inputs.
+
+mod buffers;
+mod days;
+mod files;
+mod inputs;
+mod numbers;
+mod random;
+mod report;
+
+use std::process::ExitCode;
+use std::time::Instant;
+
+use random::Random;
+use report::Report;
+
+const USAGE: &str = "usage: differential [--seed N] [--count N]";
+
+struct Options {
+    seed: u64,
+    count: u64,
+}
+
+fn options() -> Option<Options> {
+    let mut options = Options { seed: 1, count: 1_000_000 };
+    let mut arguments = std::env::args().skip(1);
+    while let Some(name) = arguments.next() {
+        let value = arguments.next()?.parse().ok()?;
+        match name.as_str() {
+            "--seed" => options.seed = value,
+            "--count" => options.count = value,
+            _ => return None,
+        }
+    }
+    Some(options)
+}
+
+/// Makes comparisons of one subject from random numbers.
+type Subject = fn(&mut Random, &mut Report);
+
+fn main() -> ExitCode {
+    let Some(Options { seed, count }) = options() else {
+        eprintln!("{USAGE}");
+        return ExitCode::from(2);
+    };
+    println!("seed {seed}");
+    let subjects: [(&str, u64, Subject); 8] = [
+        ("sine", count, numbers::sine),
+        ("kepler", count, numbers::kepler),
+        ("position", count, numbers::position),
+        ("sun", count, numbers::sun),
+        ("shade", count, numbers::shade),
+        ("label", count / 100, days::label),
+        ("read", count / 100, files::read),
+        ("buffers", count / 100, buffers::lent),
+    ];
+    let mut differences = 0;
+    for (number, (name, rounds, compare)) in subjects.into_iter().enumerate() {
+        // A subject's inputs do not depend on what ran before it.
+        let mut random = Random::new(seed.wrapping_add((number as u64) << 56));
+        let mut report = Report::new(name);
+        let start = Instant::now();
+        for _ in 0..rounds {
+            compare(&mut random, &mut report);
+        }
+        report.print(start.elapsed());
+        differences += report.differences();
+    }
+    println!("{differences} differences");
+    if differences == 0 {
+        ExitCode::SUCCESS
+    } else {
+        ExitCode::FAILURE
+    }
+}

@@ -1,0 +1,112 @@
+//! Counts comparisons and shows the first differences.
+
+use std::collections::BTreeMap;
+use std::fmt::{self, Debug, Formatter};
+use std::time::Duration;
+
+/// What a call gives, or a refusal's number and place.
+pub type Outcome<T> = Result<T, (u32, u32)>;
+
+/// Bytes shown as hex digits, the first of them where there are many.
+pub struct Hex<'a>(pub &'a [u8]);
+
+impl Debug for Hex<'_> {
+    fn fmt(&self, f: &mut Formatter) -> fmt::Result {
+        const SHOWN_BYTES: usize = 128;
+        write!(f, "{} bytes ", self.0.len())?;
+        for byte in self.0.iter().take(SHOWN_BYTES) {
+            write!(f, "{byte:02x}")?;
+        }
+        if self.0.len() > SHOWN_BYTES {
+            write!(f, "..")?;
+        }
+        Ok(())
+    }
+}
+
+/// The most differences of a subject that are printed.
+const SHOWN: u64 = 5;
+
+pub struct Report {
+    subject: &'static str,
+    comparisons: u64,
+    /// How often each refusal was given, by its number.
+    refusals: BTreeMap<u32, u64>,
+    differences: u64,
+}
+
+impl Report {
+    pub fn new(subject: &'static str) -> Report {
+        Report { subject, comparisons: 0, refusals: BTreeMap::new(), differences: 0 }
+    }
+
+    /// Compares two outcomes of one input.
+    pub fn outcomes<T: PartialEq + Debug>(
+        &mut self,
+        input: &dyn Debug,
+        library: Outcome<T>,
+        reference: Outcome<T>,
+    ) {
+        if let Err((number, _)) = reference {
+            *self.refusals.entry(number).or_default() += 1;
+        }
+        self.equal(input, "", library, reference);
+    }
+
+    /// Compares two values; `what` says which of the input's.
+    pub fn equal<T: PartialEq + Debug>(
+        &mut self,
+        input: &dyn Debug,
+        what: &str,
+        library: T,
+        reference: T,
+    ) {
+        self.comparisons += 1;
+        if library != reference {
+            self.difference(input, what, &library, &reference);
+        }
+    }
+
+    /// Compares bytes that two sides left, and shows from the first that differs.
+    pub fn bytes(&mut self, input: &dyn Debug, what: &str, library: &[u8], reference: &[u8]) {
+        let differs = library.iter().zip(reference).position(|(one, other)| one != other);
+        let from = differs.unwrap_or(library.len().min(reference.len()));
+        self.comparisons += 1;
+        if library != reference {
+            self.difference(
+                input,
+                what,
+                &(from, Hex(&library[from..])),
+                &(from, Hex(&reference[from..])),
+            );
+        }
+    }
+
+    fn difference(
+        &mut self,
+        input: &dyn Debug,
+        what: &str,
+        library: &dyn Debug,
+        reference: &dyn Debug,
+    ) {
+        self.differences += 1;
+        if self.differences <= SHOWN {
+            println!("{} {what} of {input:?}", self.subject);
+            println!("  library   {library:?}");
+            println!("  reference {reference:?}");
+        }
+    }
+
+    pub fn differences(&self) -> u64 {
+        self.differences
+    }
+
+    pub fn print(&self, took: Duration) {
+        let Report { subject, comparisons, refusals, differences } = self;
+        let seconds = took.as_secs_f64();
+        println!("{subject}: {comparisons} comparisons, {differences} differences, {seconds:.1} s");
+        for (number, times) in refusals {
+            println!("  refusal {number}: {times}");
+        }
+    }
+}

@@ -1,0 +1,55 @@
+//! The refusals, with the numbers of document 01's table.
+
+/// Why an input is refused.
+#[derive(Clone, Copy, Debug, PartialEq, Eq)]
+pub enum Refusal {
+    /// Eccentricity above 9,000,000.
+    Eccentricity = 1,
+    /// Semi-major axis outside 6,600,000 to 100,000,000 metres.
+    SemiMajorAxis = 2,
+    /// Perigee distance below 6,478,000 metres.
+    Perigee = 3,
+    /// Inclination above half a turn.
+    Inclination = 4,
+    /// Mean motion outside 20,000,000 to 1,700,000,000.
+    MeanMotion = 5,
+    /// Drift rate of node or perigee beyond ±200,000.
+    DriftRate = 6,
+    /// Epoch revolution above 99,999.
+    EpochRevolution = 7,
+    /// Epoch or time outside the years covered, or too far apart.
+    Time = 8,
+    /// The halving did not end with the mean anomaly between its neighbours.
+    Kepler = 9,
+    /// Telemetry that is no whole number of records, or over 1,024 of them.
+    Telemetry = 10,
+    /// Output too short for the labels and the trailer.
+    Output = 11,
+    /// Length or trailer of a label file.
+    File = 12,
+    /// A label that breaks a field rule, or counts that are not those of the labels.
+    Label = 13,
+    /// Position or Sun component out of range.
+    Component = 14,
+}
+
+impl Refusal {
+    /// The number in document 01's table.
+    pub fn number(self) -> u32 {
+        self as u32
+    }
+}
+
+/// A refusal from labelling or reading, with the number of the record or label.
+#[derive(Clone, Copy, Debug, PartialEq, Eq)]
+pub struct Refused {
+    pub refusal: Refusal,
+    /// 0 where no record or label is at fault.
+    pub place: u32,
+}
+
+impl From<Refusal> for Refused {
+    fn from(refusal: Refusal) -> Self {
+        Refused { refusal, place: 0 }
+    }
+}

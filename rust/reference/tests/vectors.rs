@@ -1,0 +1,85 @@
+//! The reference answers every vector.
+
+use reference::eclipse::shade;
+use reference::file::{label_day, read};
+use reference::orbit::Position;
+use reference::sun::{sun, Direction};
+use reference::{kepler, Refusal};
+use vectors::{Elements, Labeller, Refused};
+
+struct Reference;
+
+fn elements(elements: Elements) -> reference::orbit::Elements {
+    reference::orbit::Elements {
+        eccentricity: elements.eccentricity,
+        semi_major_axis: elements.semi_major_axis,
+        inclination: elements.inclination,
+        node: elements.node,
+        argument_of_perigee: elements.argument_of_perigee,
+        mean_anomaly: elements.mean_anomaly,
+        mean_motion: elements.mean_motion,
+        node_rate: elements.node_rate,
+        perigee_rate: elements.perigee_rate,
+        epoch_revolution: elements.epoch_revolution,
+        epoch: elements.epoch,
+    }
+}
+
+fn refused(refused: reference::Refused) -> Refused {
+    (refused.refusal.number(), refused.place)
+}
+
+impl Labeller for Reference {
+    fn sine(&self, angle: u32) -> i64 {
+        reference::sine::sine(angle)
+    }
+
+    fn kepler(&self, eccentricity: u32, mean_anomaly: u32) -> Result<[i64; 2], u32> {
+        kepler::solve(eccentricity, mean_anomaly)
+            .map(|anomaly| [anomaly.angle, anomaly.halvings].map(i64::from))
+            .map_err(Refusal::number)
+    }
+
+    fn sun(&self, time: i64) -> Result<[i64; 7], u32> {
+        let sun = sun(time).map_err(Refusal::number)?;
+        let [ma, ml, tl, ghaa] =
+            [sun.mean_anomaly, sun.mean_longitude, sun.true_longitude, sun.greenwich_hour_angle]
+                .map(i64::from);
+        let Direction { x, y, z } = sun.direction;
+        Ok([ma, ml, tl, ghaa, x, y, z])
+    }
+
+    fn position(&self, set: Elements, time: i64) -> Result<[i64; 8], u32> {
+        let state = elements(set).state(time).map_err(Refusal::number)?;
+        let Position { x, y, z } = state.position;
+        Ok([
+            state.revolution.into(),
+            state.anomaly.angle.into(),
+            state.anomaly.halvings.into(),
+            state.radius,
+            x,
+            y,
+            z,
+            state.node.into(),
+        ])
+    }
+
+    fn shade(&self, [x, y, z]: [i64; 3], sun: [i64; 3]) -> Result<[i64; 1], u32> {
+        let sun = Direction { x: sun[0], y: sun[1], z: sun[2] };
+        shade(Position { x, y, z }, sun).map(|shade| [shade as i64]).map_err(Refusal::number)
+    }
+
+    fn label(&self, set: Elements, telemetry: &[u8], output: &mut [u8]) -> Result<(), Refused> {
+        label_day(&elements(set), telemetry, output).map(|_| ()).map_err(refused)
+    }
+
+    fn read(&self, file: &[u8]) -> Result<[i64; 3], Refused> {
+        let counts = read(file, file.len()).map_err(refused)?.counts;
+        Ok([counts.labels, counts.training, counts.test].map(i64::from))
+    }
+}
+
+#[test]
+fn every_vector_matches() {
+    vectors::run(&Reference);
+}

@@ -1,0 +1,142 @@
+//! Runs the lines of vectors/base.txt against a labeller.
+
+use std::fmt::Display;
+use std::str::{FromStr, SplitWhitespace};
+
+/// The vectors; the head of the file says what a line holds.
+const BASE: &str = include_str!("../../../vectors/base.txt");
+
+/// What the output holds before labelling.
+const FILL: u8 = 0xaa;
+
+/// A refusal's number and place.
+pub type Refused = (u32, u32);
+
+/// Elements, named as in document 01's text.
+pub struct Elements {
+    pub eccentricity: u32,
+    pub semi_major_axis: u32,
+    pub inclination: u32,
+    pub node: u32,
+    pub argument_of_perigee: u32,
+    pub mean_anomaly: u32,
+    pub mean_motion: u32,
+    pub node_rate: i32,
+    pub perigee_rate: i32,
+    pub epoch_revolution: u32,
+    pub epoch: i64,
+}
+
+/// What the vectors ask. Answers are in the order of a line; a refusal is its number.
+pub trait Labeller {
+    fn sine(&self, angle: u32) -> i64;
+    fn kepler(&self, eccentricity: u32, mean_anomaly: u32) -> Result<[i64; 2], u32>;
+    fn sun(&self, time: i64) -> Result<[i64; 7], u32>;
+    fn position(&self, elements: Elements, time: i64) -> Result<[i64; 8], u32>;
+    fn shade(&self, position: [i64; 3], sun: [i64; 3]) -> Result<[i64; 1], u32>;
+    fn label(&self, elements: Elements, telemetry: &[u8], output: &mut [u8])
+        -> Result<(), Refused>;
+    fn read(&self, file: &[u8]) -> Result<[i64; 3], Refused>;
+}
+
+/// The words of a line's inputs, taken one after another.
+struct Inputs<'a>(SplitWhitespace<'a>);
+
+impl<'a> Inputs<'a> {
+    fn word(&mut self) -> &'a str {
+        self.0.next().expect("one more input")
+    }
+
+    fn number<T: FromStr>(&mut self) -> T {
+        let word = self.word();
+        word.parse().unwrap_or_else(|_| panic!("{word} is no such number"))
+    }
+
+    fn three(&mut self) -> [i64; 3] {
+        [self.number(), self.number(), self.number()]
+    }
+
+    /// Hex digits, or `-` for none.
+    fn bytes(&mut self) -> Vec<u8> {
+        match self.word() {
+            "-" => Vec::new(),
+            digits => (0..digits.len())
+                .step_by(2)
+                .map(|at| u8::from_str_radix(&digits[at..at + 2], 16).expect("hex digits"))
+                .collect(),
+        }
+    }
+
+    fn elements(&mut self) -> Elements {
+        Elements {
+            eccentricity: self.number(),
+            semi_major_axis: self.number(),
+            inclination: self.number(),
+            node: self.number(),
+            argument_of_perigee: self.number(),
+            mean_anomaly: self.number(),
+            mean_motion: self.number(),
+            node_rate: self.number(),
+            perigee_rate: self.number(),
+            epoch_revolution: self.number(),
+            epoch: self.number(),
+        }
+    }
+}
+
+/// The text of an accepted answer.
+fn accepted(words: impl IntoIterator<Item = impl Display>) -> String {
+    words.into_iter().fold("ok".to_string(), |text, word| format!("{text} {word}"))
+}
+
+fn refused(number: u32) -> String {
+    format!("no {number}")
+}
+
+fn refused_at((number, place): Refused) -> String {
+    format!("no {number} {place}")
+}
+
+fn hex(bytes: &[u8]) -> String {
+    bytes.iter().map(|byte| format!("{byte:02x}")).collect()
+}
+
+/// What the labeller answers to a line, as the line would have it.
+fn answer(labeller: &impl Labeller, subject: &str, mut inputs: Inputs) -> String {
+    match subject {
+        "sine" => labeller.sine(inputs.number()).to_string(),
+        "kepler" => {
+            labeller.kepler(inputs.number(), inputs.number()).map_or_else(refused, accepted)
+        }
+        "sun" => labeller.sun(inputs.number()).map_or_else(refused, accepted),
+        "position" => {
+            labeller.position(inputs.elements(), inputs.number()).map_or_else(refused, accepted)
+        }
+        "shade" => labeller.shade(inputs.three(), inputs.three()).map_or_else(refused, accepted),
+        "label" => {
+            let elements = inputs.elements();
+            let telemetry = inputs.bytes();
+            let mut output = vec![FILL; inputs.number()];
+            let outcome = labeller.label(elements, &telemetry, &mut output);
+            if outcome.is_err() {
+                assert!(output.iter().all(|byte| *byte == FILL), "a refusal wrote");
+            }
+            outcome.map_or_else(refused_at, |()| accepted([hex(&output)]))
+        }
+        "read" => labeller.read(&inputs.bytes()).map_or_else(refused_at, accepted),
+        _ => panic!("no subject {subject}"),
+    }
+}
+
+/// Runs every vector, and panics at the first that does not match.
+pub fn run(labeller: &impl Labeller) {
+    let mut compared = 0;
+    for line in BASE.lines().filter(|line| !line.starts_with('#')) {
+        let (asked, expected) = line.split_once(" = ").expect("inputs = answer");
+        let (subject, inputs) = asked.split_once(' ').expect("a subject and its inputs");
+        let found = answer(labeller, subject, Inputs(inputs.split_whitespace()));
+        assert_eq!(found, expected, "{line}");
+        compared += 1;
+    }
+    assert_eq!(compared, 2_722, "the vectors are all there");
+}

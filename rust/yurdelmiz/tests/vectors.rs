@@ -1,0 +1,83 @@
+//! The proved library answers every vector.
+
+use vectors::{Elements, Labeller, Refused};
+use yurdelmiz::{Direction, Position, Refusal};
+
+struct Library;
+
+fn elements(elements: Elements) -> yurdelmiz::Elements {
+    yurdelmiz::Elements {
+        eccentricity: elements.eccentricity,
+        semi_major_axis: elements.semi_major_axis,
+        inclination: elements.inclination,
+        node: elements.node,
+        argument_of_perigee: elements.argument_of_perigee,
+        mean_anomaly: elements.mean_anomaly,
+        mean_motion: elements.mean_motion,
+        node_rate: elements.node_rate,
+        perigee_rate: elements.perigee_rate,
+        epoch_revolution: elements.epoch_revolution,
+        epoch: elements.epoch,
+    }
+}
+
+fn refused(refused: yurdelmiz::Refused) -> Refused {
+    (refused.refusal.number(), refused.place)
+}
+
+impl Labeller for Library {
+    fn sine(&self, angle: u32) -> i64 {
+        yurdelmiz::sine(angle)
+    }
+
+    fn kepler(&self, eccentricity: u32, mean_anomaly: u32) -> Result<[i64; 2], u32> {
+        yurdelmiz::kepler(eccentricity, mean_anomaly)
+            .map(|anomaly| [anomaly.angle, anomaly.halvings].map(i64::from))
+            .map_err(Refusal::number)
+    }
+
+    fn sun(&self, time: i64) -> Result<[i64; 7], u32> {
+        let sun = yurdelmiz::sun(time).map_err(Refusal::number)?;
+        let [ma, ml, tl, ghaa] =
+            [sun.mean_anomaly, sun.mean_longitude, sun.true_longitude, sun.greenwich_hour_angle]
+                .map(i64::from);
+        let Direction { x, y, z } = sun.direction;
+        Ok([ma, ml, tl, ghaa, x, y, z])
+    }
+
+    fn position(&self, set: Elements, time: i64) -> Result<[i64; 8], u32> {
+        let state = yurdelmiz::position(&elements(set), time).map_err(Refusal::number)?;
+        let Position { x, y, z } = state.celestial;
+        Ok([
+            state.revolution.into(),
+            state.anomaly.angle.into(),
+            state.anomaly.halvings.into(),
+            state.radius.into(),
+            x,
+            y,
+            z,
+            state.node.into(),
+        ])
+    }
+
+    fn shade(&self, [x, y, z]: [i64; 3], sun: [i64; 3]) -> Result<[i64; 1], u32> {
+        let sun = Direction { x: sun[0], y: sun[1], z: sun[2] };
+        yurdelmiz::shade(Position { x, y, z }, sun)
+            .map(|shade| [i64::from(shade == yurdelmiz::Shade::Dark)])
+            .map_err(Refusal::number)
+    }
+
+    fn label(&self, set: Elements, telemetry: &[u8], output: &mut [u8]) -> Result<(), Refused> {
+        yurdelmiz::label_day(&elements(set), telemetry, output).map(|_| ()).map_err(refused)
+    }
+
+    fn read(&self, file: &[u8]) -> Result<[i64; 3], Refused> {
+        let counts = yurdelmiz::read(file, file.len()).map_err(refused)?;
+        Ok([counts.labels, counts.training, counts.test].map(i64::from))
+    }
+}
+
+#[test]
+fn every_vector_matches() {
+    vectors::run(&Library);
+}
