@@ -1,0 +1,79 @@
+-- How large a number an element holds, and that its type holds it. Assumes nothing.
+use mathlib.Core.Path.{_≡_, refl, ap, subst, sym}
+use mathlib.Core.Bool.{Bool, true, false, cond, _&&_}
+use Prim.Native.Nat.{ℕ, zero, suc, _-_, _^_, _≤_, _<_, zero-le}
+use native.Mathlib.Nat.{le-trans, le-of-suc-le-suc}
+use native.Mathlib.Omega.{arith}
+use borrow.Author.Tests.{eqb-true, leb-true}
+use lib.Dec.{T, eqb, leb, lit≤}
+use lib.IntN.{pos, negsuc, negℤ}
+use lib.Signed.{mag}
+use mir.Syntax.{w32}
+use mir.Val.{SFits}
+use Rattle.elements_file.specs.Numbers.{largest, isRate, isEpoch, isDigit, signedOf}
+use Rattle.elements_file.specs.declared.number.Number.{Number}
+
+-- the epoch holds the most, and no element less than a digit
+abbrev largest-of : Bool → Bool → Bool → ℕ
+largest-of epoch rate negative =
+    cond epoch (cond negative (2 ^ 63) (2 ^ 63 - 1)) (cond rate (cond negative (2 ^ 31) (2 ^ 31 - 1)) (2 ^ 32 - 1))
+
+most : (epoch rate negative : Bool) → largest-of epoch rate negative ≤ largest-of true false negative
+most true rate true = lit≤ tt
+most true rate false = lit≤ tt
+most false true true = lit≤ tt
+most false true false = lit≤ tt
+most false false true = lit≤ tt
+most false false false = lit≤ tt
+
+least : (epoch rate negative : Bool) → 9 ≤ largest-of epoch rate negative
+least true rate true = lit≤ tt
+least true rate false = lit≤ tt
+least false true true = lit≤ tt
+least false true false = lit≤ tt
+least false false negative = lit≤ tt
+
+pub largest-epoch : (element : ℕ) (negative : Bool) → largest element negative ≤ largest 10 negative
+unfolding largest
+largest-epoch element negative = most (isEpoch element) (isRate element) negative
+
+pub largest-digit : (element : ℕ) (negative : Bool) → 9 ≤ largest element negative
+unfolding largest
+largest-digit element negative = least (isEpoch element) (isRate element) negative
+
+pub largest-bits : (element : ℕ) (negative : Bool) → largest element negative ≤ 2 ^ 63
+unfolding largest
+largest-bits element true = largest-epoch element true
+largest-bits element false = le-trans (largest-epoch element false) (lit≤ tt)
+
+-- ---- by the element's number
+pub fits-unsigned : (k element m : ℕ) (negative : Bool) → largest k negative ≡ 2 ^ 32 - 1 → m ≤ largest element negative → eqb element k ≡ true → m < 2 ^ 32
+fits-unsigned k element m negative e h t =
+    let h' = rw (eqb-true element k t, e) at h in
+    omega arith
+
+-- the magnitude with its sign, of which the lowest has no positive
+mag-signed : (b m : ℕ) (negative : Bool) → m ≤ cond negative (suc b) b → mag (cond negative (negℤ (pos m)) (pos m)) ≤ b
+mag-signed b m false h = h
+mag-signed b zero true h = zero-le
+mag-signed b (suc m) true h = le-of-suc-le-suc h
+
+pub fits-rate : (k element : ℕ) (n : Number) → largest k (n .negative) ≡ cond (n .negative) (2 ^ 31) (2 ^ 31 - 1) → n .magnitude ≤ largest element (n .negative) → eqb element k ≡ true → SFits w32 (signedOf n)
+unfolding signedOf
+fits-rate k element n e h t =
+    let h' = mag-signed (2 ^ 31 - 1) (n .magnitude) (n .negative) (rw (eqb-true element k t, e) at h) in
+    record { sfits = omega arith }
+
+pub below-zero : (m : ℕ) → (m ≡ 0 → ⊥) → negsuc (m - 1) ≡ negℤ (pos m)
+below-zero zero h = absurd (h refl)
+below-zero (suc m) h = ap negsuc (omega arith)
+
+-- ---- a digit
+both : (a b : Bool) → (a && b) ≡ true → (a ≡ true) × (b ≡ true)
+both true b e = (refl, e)
+both false b e = absurd (subst T (sym e) tt)
+
+pub digit-range : (byte : ℕ) → isDigit byte ≡ true → (48 ≤ byte) × (byte ≤ 57)
+digit-range byte e =
+    let two = both (leb 48 byte) (leb byte 57) e in
+    (leb-true 48 byte (two .0), leb-true byte 57 (two .1))

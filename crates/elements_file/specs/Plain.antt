@@ -1,0 +1,76 @@
+-- Plain elements files, with no comment and no empty line, and the elements that they write. Assumes nothing.
+use Prim.Native.Nat.{ℕ, zero, suc, _+_, _*_, _≤_}
+use mathlib.Core.Path.{_≡_}
+use mathlib.Core.Bool.{Bool, true, cond}
+use mathlib.Core.List.{List, [], _∷_, _++_}
+use lib.Dec.{eqb}
+use lib.ListN.{drop}
+use Rattle.orbit.specs.declared.elements.Elements.{Elements}
+use Rattle.elements_file.specs.Names.{names}
+use Rattle.elements_file.specs.Numbers.{isSigned, largest, signedOf}
+use Rattle.elements_file.specs.declared.number.Number.{Number}
+
+-- the number that digits write, behind those of m
+unfoldable pub valueAfter : ℕ → List ℕ → ℕ
+valueAfter m [] = m
+valueAfter m (d ∷ ds) = valueAfter (10 * m + d) ds
+
+-- a minus or none, a first digit, and further ones
+pub record Written : Type 0 where
+  pub negative : Bool
+  pub first : ℕ
+  pub further : List ℕ
+
+abbrev pub numberOf : Written → Number
+numberOf w = record { negative = w .negative; digits = true; magnitude = valueAfter (w .first) (w .further) }
+
+-- ---- the bytes
+abbrev pub digitBytes : List ℕ → List ℕ
+digitBytes [] = []
+digitBytes (d ∷ ds) = (48 + d) ∷ digitBytes ds
+
+unfoldable pub valueBytes : Written → List ℕ
+valueBytes w = cond (w .negative) (45 ∷ []) [] ++ ((48 + w .first) ∷ digitBytes (w .further))
+
+abbrev pub upToSpace : List ℕ → List ℕ
+upToSpace [] = []
+upToSpace (byte ∷ bytes) = cond (eqb byte 32) [] (byte ∷ upToSpace bytes)
+
+unfoldable pub nameOf : ℕ → List ℕ
+nameOf element = upToSpace (drop (20 * element) names)
+
+-- the name, a space, the value, LF
+unfoldable pub lineOf : ℕ → Written → List ℕ
+lineOf element w = nameOf element ++ (32 ∷ (valueBytes w ++ (10 ∷ [])))
+
+unfoldable pub linesFrom : ℕ → ℕ → (ℕ → Written) → List ℕ
+linesFrom element zero w = []
+linesFrom element (suc n) w = lineOf element (w element) ++ linesFrom (element + 1) n w
+
+-- ---- what they write
+abbrev pub AllDigits : List ℕ → Type 0
+AllDigits [] = Unit {0}
+AllDigits (d ∷ ds) = (d ≤ 9) × AllDigits ds
+
+-- digits, and a number that the element holds
+pub record Plain (element : ℕ) (w : Written) : Type 0 where
+  pub leading : w .first ≤ 9
+  pub following : AllDigits (w .further)
+  pub signed : w .negative ≡ true → isSigned element ≡ true
+  pub held : numberOf w .magnitude ≤ largest element (w .negative)
+
+abbrev pub elementsOf : (ℕ → Written) → Elements
+elementsOf w =
+    record {
+      eccentricity = numberOf (w 0) .magnitude;
+      «semi_major_axis» = numberOf (w 1) .magnitude;
+      inclination = numberOf (w 2) .magnitude;
+      node = numberOf (w 3) .magnitude;
+      «argument_of_perigee» = numberOf (w 4) .magnitude;
+      «mean_anomaly» = numberOf (w 5) .magnitude;
+      «mean_motion» = numberOf (w 6) .magnitude;
+      «node_rate» = signedOf (numberOf (w 7));
+      «perigee_rate» = signedOf (numberOf (w 8));
+      «epoch_revolution» = numberOf (w 9) .magnitude;
+      epoch = signedOf (numberOf (w 10));
+    }

@@ -1,0 +1,26 @@
+// The names of the elements.
+ghost use mathlib.Core.Path.{_≡_};
+ghost use Rattle.elements_file.specs.Names.{Within, nameByte};
+
+// A row of 20 bytes for each element, in the order of the file.
+const NAMES: [u8; 220] = *b"\
+    eccentricity        \
+    semi_major_axis     \
+    inclination         \
+    node                \
+    argument_of_perigee \
+    mean_anomaly        \
+    mean_motion         \
+    node_rate           \
+    perigee_rate        \
+    epoch_revolution    \
+    epoch               ";
+
+// Byte k of the row of an element.
+pub fn byte(element: u32, k: usize) -> u8
+    requires { ⌜ Within element k ⌝ }
+    ensures { λ r. ⌜ r ≡ nameByte element k ⌝ }
+{
+    let at = 20 * (element as usize) + k;
+    if at < 220 { NAMES[at] } else { b' ' }
+}
