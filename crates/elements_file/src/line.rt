@@ -95,7 +95,8 @@ fn begun(element: u32, byte: u8) -> Place
     named(element, 0, byte)
 }
 
-// The line with a further byte that does not end it.
+// The line with a further byte that does not end it. The reader keeps the element and the place together,
+// which is what the `requires` asks.
 pub fn within(place: Place, element: u32, byte: u8) -> Place
     requires { ⌜ (element ≤ 11) × Fitting element place ⌝ }
     ensures { λ r. ⌜ r ≡ within place element byte ⌝ }

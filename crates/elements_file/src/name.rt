@@ -16,7 +16,7 @@ const NAMES: [u8; 220] = *b"\
     epoch_revolution    \
     epoch               ";
 
-// Byte k of the row of an element.
+// Byte k of the row of an element. The reader has an element that is due by then, and k counts its bytes.
 pub fn byte(element: u32, k: usize) -> u8
     requires { ⌜ Within element k ⌝ }
     ensures { λ r. ⌜ r ≡ nameByte element k ⌝ }
