@@ -32,7 +32,7 @@ enum {
     /* Semi-major axis outside 6,600,000 to 100,000,000 metres. */
     YURDELMIZ_SEMI_MAJOR_AXIS = 2,
     /* Perigee distance below 6,478,000 metres. */
-    YURDELMIZ_PERIGEE = 3,
+    YURDELMIZ_PERIGEE_DISTANCE = 3,
     /* Inclination above half a turn, 2^31. */
     YURDELMIZ_INCLINATION = 4,
     /* Mean motion outside 20,000,000 to 1,700,000,000 (10^-8 revolutions a day). */
@@ -44,15 +44,15 @@ enum {
     /* Epoch or time outside -2,834,956,800 to 3,476,476,799, or over 31,622,400 s apart. */
     YURDELMIZ_TIME = 8,
     /* The halving did not end with the mean anomaly between its two neighbours. */
-    YURDELMIZ_KEPLER = 9,
+    YURDELMIZ_NOT_CONVERGED = 9,
     /* Telemetry length no multiple of 16, or over 1,024 records. */
-    YURDELMIZ_TELEMETRY = 10,
+    YURDELMIZ_TELEMETRY_LENGTH = 10,
     /* Output shorter than 24 bytes a record plus 16. */
-    YURDELMIZ_OUTPUT = 11,
+    YURDELMIZ_OUTPUT_LENGTH = 11,
     /* Label file: fewer than 16 bytes, a length beyond the buffer, or a trailer that does not fit. */
-    YURDELMIZ_FILE = 12,
+    YURDELMIZ_TRAILER = 12,
     /* Label file: a label breaks a field rule, or the counts are not those of the labels. */
-    YURDELMIZ_LABEL = 13,
+    YURDELMIZ_LABELS = 13,
     /* Position component beyond +-200,000,000, or Sun component beyond +-2^30. */
     YURDELMIZ_COMPONENT = 14,
     /* No refusal of the table: `elements` or `answer` is not of the length given here. */

@@ -1,4 +1,4 @@
-//! Links libffi.a, the proved library with its C interface (include/yurdelmiz.h).
+//! Links libyurdelmiz.a, the proved library with its C interface (include/yurdelmiz.h).
 //!
 //! The archive is looked for in target/staticlib at the root of the repository, or in the folder
 //! that YURDELMIZ_LIB_DIR names.
@@ -6,7 +6,7 @@
 use std::env;
 use std::path::{Path, PathBuf};
 
-const ARCHIVE: &str = "libffi.a";
+const ARCHIVE: &str = "libyurdelmiz.a";
 
 fn main() {
     println!("cargo::rerun-if-env-changed=YURDELMIZ_LIB_DIR");
@@ -18,11 +18,11 @@ fn main() {
     println!("cargo::rerun-if-changed={}", archive.display());
     if !archive.exists() {
         println!(
-            "cargo::error=no {}: build it with `rt staticlib ffi`, or name its folder in YURDELMIZ_LIB_DIR",
+            "cargo::error=no {}: build it with `rt staticlib yurdelmiz`, or name its folder in YURDELMIZ_LIB_DIR",
             archive.display()
         );
         return;
     }
     println!("cargo::rustc-link-search=native={}", folder.display());
-    println!("cargo::rustc-link-lib=static=ffi");
+    println!("cargo::rustc-link-lib=static=yurdelmiz");
 }

@@ -4,7 +4,7 @@ use mathlib.Core.Bool.{true, false}
 use Prim.Native.Nat.{_^_}
 use lib.IntN.{ℤ, pos}
 use lib.Signed.{ltZ}
-use Rattle.refusal.specs.declared.Refusal.the-variants.{ShadeRange}
+use Rattle.refusal.specs.declared.Refusal.the-variants.{Component}
 use Rattle.position.specs.declared.Position.{Position}
 use Rattle.sun.specs.declared.Direction.{Direction}
 use Rattle.eclipse.specs.Shade.{projection, sideSquared, shadeOf, anyBeyond, outOfRange, shadeAnswer}
@@ -25,12 +25,12 @@ module _ (q : Position) (sun : Direction) (p : ℤ) (e : p ≡ projection q sun)
   dark-behind t u = rw (← e, t, u)
 
 module _ (q : Position) (sun : Direction) where
-  pub position-refused : anyBeyond 200_000_000 (q .x) (q .y) (q .z) ≡ true → Refused ShadeRange ≡ shadeAnswer q sun
+  pub position-refused : anyBeyond 200_000_000 (q .x) (q .y) (q .z) ≡ true → Refused Component ≡ shadeAnswer q sun
   unfolding outOfRange shadeAnswer
   position-refused e = rw e
 
   pub sun-refused : anyBeyond 200_000_000 (q .x) (q .y) (q .z) ≡ false → anyBeyond (2 ^ 30) (sun .x) (sun .y) (sun .z) ≡ true
-      → Refused ShadeRange ≡ shadeAnswer q sun
+      → Refused Component ≡ shadeAnswer q sun
   unfolding outOfRange shadeAnswer
   sun-refused e f = rw (e, f)
 

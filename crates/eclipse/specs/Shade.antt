@@ -4,7 +4,7 @@ use Prim.Native.Nat.{ℕ, _^_}
 use lib.Dec.{ltb}
 use lib.IntN.{ℤ, pos, natAbs, _+ℤ_, _-ℤ_, _*ℤ_}
 use lib.Signed.{ltZ}
-use Rattle.refusal.specs.declared.Refusal.the-variants.{ShadeRange}
+use Rattle.refusal.specs.declared.Refusal.the-variants.{Component}
 use Rattle.position.specs.declared.Position.{Position}
 use Rattle.sun.specs.declared.Direction.{Direction}
 use Rattle.eclipse.specs.Dot.{dotOf}
@@ -42,4 +42,4 @@ outOfRange q sun = anyBeyond 200_000_000 (q .x) (q .y) (q .z) || anyBeyond (2 ^ 
 
 -- the shade test alone
 unfoldable pub shadeAnswer : Position → Direction → ShadeAnswer
-shadeAnswer q sun = cond (outOfRange q sun) (Refused ShadeRange) (Shaded (shadeOf q sun))
+shadeAnswer q sun = cond (outOfRange q sun) (Refused Component) (Shaded (shadeOf q sun))

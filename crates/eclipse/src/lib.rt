@@ -94,10 +94,10 @@ pub fn shade_test(position: Position, sun: Direction) -> ShadeAnswer
     ensures { λ r. ⌜ r ≡ shadeAnswer position sun ⌝ }
 {
     if any_beyond(200_000_000, position.x, position.y, position.z) {
-        return ShadeAnswer::Refused(Refusal::ShadeRange);
+        return ShadeAnswer::Refused(Refusal::Component);
     }
     if any_beyond(0x4000_0000, sun.x, sun.y, sun.z) {
-        return ShadeAnswer::Refused(Refusal::ShadeRange);
+        return ShadeAnswer::Refused(Refusal::Component);
     }
     ShadeAnswer::Shaded(shade_at(position, sun))
 }

@@ -23,11 +23,11 @@ fn reason(refusal: Refusal) {
             b"the telemetry is not a whole number of 16-byte records, or has over 1,024",
         ),
         Refusal::OutputLength => say(b"the output has no room for the labels"),
-        Refusal::FileLength => say(b"the label file's length and its trailer do not fit"),
-        Refusal::LabelRules => say(
+        Refusal::Trailer => say(b"the label file's length and its trailer do not fit"),
+        Refusal::Labels => say(
             b"a label breaks the rules, or the trailer's counts are not those of the labels",
         ),
-        Refusal::ShadeRange => say(b"a position or the Sun's direction is out of range"),
+        Refusal::Component => say(b"a position or the Sun's direction is out of range"),
     }
 }
 

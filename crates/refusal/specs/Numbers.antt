@@ -1,7 +1,7 @@
 -- The number of each refusal: document 01, "When the build says no". Assumes nothing.
 use Prim.Native.Nat.{ℕ}
 use Rattle.refusal.specs.declared.Refusal.{Refusal}
-use Rattle.refusal.specs.declared.Refusal.the-variants.{Eccentricity, SemiMajorAxis, PerigeeDistance, Inclination, MeanMotion, DriftRate, EpochRevolution, Time, NotConverged, TelemetryLength, OutputLength, FileLength, LabelRules, ShadeRange}
+use Rattle.refusal.specs.declared.Refusal.the-variants.{Eccentricity, SemiMajorAxis, PerigeeDistance, Inclination, MeanMotion, DriftRate, EpochRevolution, Time, NotConverged, TelemetryLength, OutputLength, Trailer, Labels, Component}
 
 abbrev pub numberOf : Refusal → ℕ
 -- e above 9,000,000
@@ -27,8 +27,8 @@ numberOf TelemetryLength = 10
 -- output shorter than 24 a record plus 16
 numberOf OutputLength = 11
 -- a label file's length, or its trailer's numbers
-numberOf FileLength = 12
+numberOf Trailer = 12
 -- a label's field rules, or the trailer's counts
-numberOf LabelRules = 13
+numberOf Labels = 13
 -- a position or Sun component beyond the shade test's range
-numberOf ShadeRange = 14
+numberOf Component = 14

@@ -14,9 +14,9 @@ pub enum Refusal {
     NotConverged,
     TelemetryLength,
     OutputLength,
-    FileLength,
-    LabelRules,
-    ShadeRange,
+    Trailer,
+    Labels,
+    Component,
 }
 
 impl Refusal {
@@ -36,9 +36,9 @@ impl Refusal {
             Refusal::NotConverged => 9,
             Refusal::TelemetryLength => 10,
             Refusal::OutputLength => 11,
-            Refusal::FileLength => 12,
-            Refusal::LabelRules => 13,
-            Refusal::ShadeRange => 14,
+            Refusal::Trailer => 12,
+            Refusal::Labels => 13,
+            Refusal::Component => 14,
         }
     }
 }

@@ -55,7 +55,7 @@ pub fn solve(eccentricity: u32, mean_anomaly: Angle) -> Result<EccentricAnomaly,
     let at = mean_anomaly_of(eccentricity, found);
     let next = mean_anomaly_of(eccentricity, found + 1);
     if !(at <= asked && asked < next) {
-        return Err(Refusal::Kepler);
+        return Err(Refusal::NotConverged);
     }
     Ok(EccentricAnomaly { angle: found as u32, halvings: 32 })
 }

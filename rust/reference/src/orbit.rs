@@ -80,7 +80,7 @@ impl Elements {
         let perigee =
             u64::from(self.semi_major_axis) * u64::from(ECCENTRICITY_ONE - self.eccentricity);
         if perigee < 6_478_000 * u64::from(ECCENTRICITY_ONE) {
-            return Err(Refusal::Perigee);
+            return Err(Refusal::PerigeeDistance);
         }
         if self.inclination > HALF_TURN {
             return Err(Refusal::Inclination);

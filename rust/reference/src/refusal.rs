@@ -8,7 +8,7 @@ pub enum Refusal {
     /// Semi-major axis outside 6,600,000 to 100,000,000 metres.
     SemiMajorAxis = 2,
     /// Perigee distance below 6,478,000 metres.
-    Perigee = 3,
+    PerigeeDistance = 3,
     /// Inclination above half a turn.
     Inclination = 4,
     /// Mean motion outside 20,000,000 to 1,700,000,000.
@@ -20,15 +20,15 @@ pub enum Refusal {
     /// Epoch or time outside the years covered, or too far apart.
     Time = 8,
     /// The halving did not end with the mean anomaly between its neighbours.
-    Kepler = 9,
+    NotConverged = 9,
     /// Telemetry that is no whole number of records, or over 1,024 of them.
-    Telemetry = 10,
+    TelemetryLength = 10,
     /// Output too short for the labels and the trailer.
-    Output = 11,
+    OutputLength = 11,
     /// Length or trailer of a label file.
-    File = 12,
+    Trailer = 12,
     /// A label that breaks a field rule, or counts that are not those of the labels.
-    Label = 13,
+    Labels = 13,
     /// Position or Sun component out of range.
     Component = 14,
 }

@@ -36,7 +36,7 @@ fn a_length_within_the_buffer_counts() {
     let mut buffer = EXAMPLE.to_vec();
     buffer.extend([0xee; 9]);
     assert!(read(&buffer, 40).is_ok());
-    let refused = Refused { refusal: Refusal::File, place: 0 };
+    let refused = Refused { refusal: Refusal::Trailer, place: 0 };
     assert_eq!(read(&buffer, 49).unwrap_err(), refused);
     assert_eq!(read(&EXAMPLE, 41).unwrap_err(), refused);
     assert_eq!(read(&EXAMPLE, usize::MAX).unwrap_err(), refused);

@@ -1,0 +1,30 @@
+-- A labelled day as the outcome of a call. Assumes nothing.
+use mathlib.Core.Path.{_≡_, sym, ap, _∙_}
+use Prim.Native.Nat.{ℕ}
+use mathlib.Core.List.{List}
+use Rattle.refusal.specs.Numbers.{numberOf}
+use Rattle.refusal.specs.declared.Refusal.{Refusal}
+use Rattle.orbit.specs.declared.elements.Elements.{Elements}
+use Rattle.label_file.specs.File.{fileOf}
+use Rattle.label_file.specs.Trailer.{distanceBack}
+use Rattle.label_file.specs.declared.Counts.{Counts}
+use Rattle.labelling.specs.Day.{records, labelAt, outputAfter, outputBy, LabelledDay}
+use Rattle.labelling.specs.declared.Labelling.{Labelling}
+use Rattle.labelling.specs.declared.Labelling.the-variants.{Labelled, Refused}
+use Rattle.yurdelmiz.specs.Call.{refused, given, statusAt}
+use Rattle.yurdelmiz.specs.Calls.{labelOutcome, dayOutcome}
+
+module _ {el : Elements} {telemetry output after : List ℕ} {r : Labelling} (day : LabelledDay el telemetry output after r) where
+  pub day-refused : {refusal : Refusal} {place : ℕ} → r ≡ Refused refusal place → dayOutcome el telemetry output ≡ refused (statusAt (numberOf refusal) place)
+  unfolding dayOutcome
+  day-refused e = ap (λ (x : Labelling). labelOutcome x (outputAfter el telemetry output)) (sym (day .answer-is) ∙ e)
+
+  pub day-labelled : {counts : Counts} → r ≡ Labelled counts → dayOutcome el telemetry output ≡ given (outputAfter el telemetry output)
+  unfolding dayOutcome
+  day-labelled e = ap (λ (x : Labelling). labelOutcome x (outputAfter el telemetry output)) (sym (day .answer-is) ∙ e)
+
+  pub unchanged : {refusal : Refusal} {place : ℕ} → r ≡ Refused refusal place → after ≡ output
+  unfolding outputAfter
+  unchanged e =
+      let file = fileOf (labelAt el telemetry) (records telemetry) in
+      day .output-is ∙ ap (λ (x : Labelling). outputBy x file (distanceBack (records telemetry)) output) (sym (day .answer-is) ∙ e)

@@ -1,0 +1,78 @@
+-- `yurdelmiz::buffers::read_elements` meets its contract. Assumes nothing.
+use mathlib.Core.Path.{_∙_}
+use mir.Facts.{toZ-ofZ}
+use Rattle.yurdelmiz.specs.Buffers.{elementsOf}
+use borrow.Author.Needs.{needs}
+use Rattle.yurdelmiz.proofs.buffers.read_elements.Statement.{statement}
+use Rattle.yurdelmiz.proofs.buffers.read_elements.Tie as tie
+
+read-i64-requires : tie.Need-read-i64-requires
+read-i64-requires c κs = search needs
+
+read-u32-requires : tie.Need-read-u32-requires
+read-u32-requires c κs = search needs
+
+read-u32-requires-2 : tie.Need-read-u32-requires-2
+read-u32-requires-2 c κs = search needs
+
+read-u32-requires-3 : tie.Need-read-u32-requires-3
+read-u32-requires-3 c κs = search needs
+
+read-u32-requires-4 : tie.Need-read-u32-requires-4
+read-u32-requires-4 c κs = search needs
+
+read-u32-requires-5 : tie.Need-read-u32-requires-5
+read-u32-requires-5 c κs = search needs
+
+read-u32-requires-6 : tie.Need-read-u32-requires-6
+read-u32-requires-6 c κs = search needs
+
+read-u32-requires-7 : tie.Need-read-u32-requires-7
+read-u32-requires-7 c κs = search needs
+
+read-i32-requires : tie.Need-read-i32-requires
+read-i32-requires c κs = search needs
+
+read-i32-requires-2 : tie.Need-read-i32-requires-2
+read-i32-requires-2 c κs = search needs
+
+read-u32-requires-8 : tie.Need-read-u32-requires-8
+read-u32-requires-8 c κs = search needs
+
+returns : tie.Need-returns
+unfolding elementsOf
+returns c =
+    let e = c .before .before .before .before .before .before .before .before .before .before in
+    let epoch = toZ-ofZ (record { sfits = e .read-i64 .ok }) ∙ e .read-i64 .ensures in
+    let node-rate = toZ-ofZ (record { sfits = c .before .before .read-i32 .ok }) ∙ c .before .before .read-i32 .ensures in
+    let perigee-rate = toZ-ofZ (record { sfits = c .before .read-i322 .ok }) ∙ c .before .read-i322 .ensures in
+    λ i. record {
+      epoch = epoch i;
+      eccentricity = c .before .before .before .before .before .before .before .before .before .read-u32 .ensures i;
+      «semi_major_axis» = c .before .before .before .before .before .before .before .before .read-u322 .ensures i;
+      inclination = c .before .before .before .before .before .before .before .read-u323 .ensures i;
+      node = c .before .before .before .before .before .before .read-u324 .ensures i;
+      «argument_of_perigee» = c .before .before .before .before .before .read-u325 .ensures i;
+      «mean_anomaly» = c .before .before .before .before .read-u326 .ensures i;
+      «mean_motion» = c .before .before .before .read-u327 .ensures i;
+      «node_rate» = node-rate i;
+      «perigee_rate» = perigee-rate i;
+      «epoch_revolution» = c .read-u328 .ensures i;
+    }
+
+pub read-elements-spec : {M : Type 1} → statement M
+read-elements-spec =
+    tie.close
+    (tie.spec
+    read-i64-requires
+    read-u32-requires
+    read-u32-requires-2
+    read-u32-requires-3
+    read-u32-requires-4
+    read-u32-requires-5
+    read-u32-requires-6
+    read-u32-requires-7
+    read-i32-requires
+    read-i32-requires-2
+    read-u32-requires-8
+    returns)

@@ -1,0 +1,74 @@
+-- `yurdelmiz::yurdelmiz_label` meets its contract. Assumes nothing.
+use borrow.Author.Tests.{eq-eqb, ne-eqb}
+use denote.Ref.{now}
+use Rattle.labelling.specs.Day.{LabelledDay}
+use Rattle.yurdelmiz.specs.Buffers.{elementsOf}
+use Rattle.yurdelmiz.specs.Calls.{labelCall}
+use Rattle.yurdelmiz.proofs.Endings.{bad-buffer, ends-refused, ends-given}
+use Rattle.yurdelmiz.proofs.Days.{day-refused, day-labelled, unchanged}
+use borrow.Author.Needs.{needs}
+use Rattle.yurdelmiz.proofs.yurdelmiz_label.Statement.{statement}
+use Rattle.yurdelmiz.proofs.yurdelmiz_label.Tie as tie
+
+cast-result : tie.Need-cast-result
+cast-result c = search needs
+
+day-is : (c : tie.After-label-day) → let a = c .before .before .before .before .before .before .before .args in
+    LabelledDay (elementsOf (now (a .elements))) (now (a .telemetry)) (now (a .output)) (c .label-day .last .1 .1 .0) (c .label-day .result)
+day-is c = rw (c .before .before .read-elements .ensures) at (c .label-day .ensures)
+
+returns : tie.Need-returns
+unfolding labelCall
+returns c = bad-buffer _ _ _ (ne-eqb _ 48 (c .if1 .taken))
+
+read-elements-requires : tie.Need-read-elements-requires
+read-elements-requires c κs = search needs
+
+label-day-requires : tie.Need-label-day-requires
+label-day-requires c κs = search needs
+
+enum-known-labelled : tie.Need-enum-known-labelled
+enum-known-labelled c = search needs
+
+status-at-requires : tie.Need-status-at-requires
+status-at-requires c κs = search needs
+
+enum-told : tie.Need-enum-told
+enum-told c = search needs
+
+same-length : tie.Need-same-length
+same-length c = search needs
+
+returns-2 : tie.Need-returns-2
+unfolding labelCall
+returns-2 c =
+    let d = c .before .before .before .before .before .before in
+    let l = day-is d in
+    let r = c .before .before .labelled .given .1 in
+    rw (unchanged l r) (ends-refused _ _ _ (c .status-at .ensures) (eq-eqb _ 48 (d .before .before .before .if1 .left)) (day-refused l r))
+
+same-length-2 : tie.Need-same-length-2
+same-length-2 c = search needs
+
+returns-3 : tie.Need-returns-3
+unfolding labelCall
+returns-3 c =
+    let d = c .before .before .before .before in
+    let l = day-is d in
+    ends-given _ _ _ (l .output-is) (eq-eqb _ 48 (d .before .before .before .if1 .left)) (day-labelled l (c .enum-told .given .1))
+
+pub yurdelmiz-label-spec : {M : Type 1} → statement M
+yurdelmiz-label-spec =
+    tie.close
+    (tie.spec
+    cast-result
+    returns
+    read-elements-requires
+    label-day-requires
+    enum-known-labelled
+    status-at-requires
+    enum-told
+    same-length
+    returns-2
+    same-length-2
+    returns-3)

@@ -1,0 +1,73 @@
+-- `yurdelmiz::yurdelmiz_shade` meets its contract. Assumes nothing.
+use mathlib.Core.Path.{_≡_, sym, ap, _∙_}
+use borrow.Author.Tests.{eq-eqb, ne-eqb}
+use Rattle.yurdelmiz.specs.Calls.{shadeOutcome, shadeCall}
+use Rattle.yurdelmiz.proofs.Endings.{bad-buffer, ends-refused, ends-given}
+use denote.Ref.{now}
+use Prim.Native.Nat.{ℕ}
+use mathlib.Core.List.{[], _∷_}
+use mir.Facts.{toZ-ofZ}
+use Rattle.eclipse.specs.Shade.{shadeAnswer}
+use Rattle.yurdelmiz.proofs.Fields.{over-all}
+use borrow.Author.Needs.{needs}
+use Rattle.yurdelmiz.proofs.yurdelmiz_shade.Statement.{statement}
+use Rattle.yurdelmiz.proofs.yurdelmiz_shade.Tie as tie
+
+shaded-is : (c : tie.After-shade-test) → let a = c .before .before .before .args in
+    c .shade-test .result ≡ shadeAnswer (record { x = a .x; y = a .y; z = a .z }) (record { x = a .sun-x; y = a .sun-y; z = a .sun-z })
+shaded-is c =
+    let f = c .before .before .before .fits in
+    rw (toZ-ofZ (f .x), toZ-ofZ (f .y), toZ-ofZ (f .z), toZ-ofZ (f .sun-x), toZ-ofZ (f .sun-y), toZ-ofZ (f .sun-z)) at (c .shade-test .ensures)
+
+returns : tie.Need-returns
+unfolding shadeCall
+returns c = bad-buffer _ _ _ (ne-eqb _ 1 (c .if1 .taken))
+
+shade-test-requires : tie.Need-shade-test-requires
+shade-test-requires c κs = search needs
+
+enum-known-shaded : tie.Need-enum-known-shaded
+enum-known-shaded c = search needs
+
+number-requires : tie.Need-number-requires
+number-requires c κs = search needs
+
+enum-known-shaded-2 : tie.Need-enum-known-shaded-2
+enum-known-shaded-2 c = search needs
+
+code-requires : tie.Need-code-requires
+code-requires c κs = search needs
+
+slice-write-answer : tie.Need-slice-write-answer
+slice-write-answer c = search needs
+
+returns-2 : tie.Need-returns-2
+unfolding shadeCall
+returns-2 c =
+    let k = c .before .before .before .before .before in
+    ends-refused _ _ _ (c .number .ensures) (eq-eqb _ 1 (k .if1 .left)) (ap shadeOutcome (sym (shaded-is (c .before .before .before .before)) ∙ c .before .before .shaded .given .1))
+
+same-length : tie.Need-same-length
+same-length c = search needs
+
+returns-3 : tie.Need-returns-3
+unfolding shadeCall
+returns-3 c =
+    let w = c in
+    let k = w .before .before .before .before .before in
+    ends-given _ _ _ (over-all (now (k .before .before .args .answer)) (c .code .result ∷ []) (k .if1 .left) ∙ ap (λ (v : ℕ). v ∷ []) (c .code .ensures)) (eq-eqb _ 1 (k .if1 .left)) (ap shadeOutcome (sym (shaded-is (w .before .before .before .before)) ∙ w .before .before .shaded2 .given .1))
+
+pub yurdelmiz-shade-spec : {M : Type 1} → statement M
+yurdelmiz-shade-spec =
+    tie.close
+    (tie.spec
+    returns
+    shade-test-requires
+    enum-known-shaded
+    number-requires
+    enum-known-shaded-2
+    code-requires
+    slice-write-answer
+    returns-2
+    same-length
+    returns-3)

@@ -1,0 +1,91 @@
+-- What each call of the C interface gives: include/yurdelmiz.h, in its order. Assumes nothing.
+use Prim.Native.Nat.{ℕ}
+use mathlib.Core.Bool.{_&&_}
+use mathlib.Core.List.{List, [], _∷_}
+use lib.Dec.{eqb}
+use lib.IntN.{ℤ}
+use lib.ListN.{length}
+use Rattle.refusal.specs.Numbers.{numberOf}
+use Rattle.kepler.specs.Solution.{solution}
+use Rattle.kepler.specs.declared.Solution.{Solution}
+use Rattle.kepler.specs.declared.Solution.the-variants as solution
+use Rattle.sun.specs.Sun.{sunOf, sunAnswer}
+use Rattle.sun.specs.declared.Direction.{Direction}
+use Rattle.sun.specs.declared.SunAnswer.{SunAnswer}
+use Rattle.sun.specs.declared.SunAnswer.the-variants as sun
+use Rattle.position.specs.Turn.{earthFixedOf}
+use Rattle.position.specs.declared.Position.{Position}
+use Rattle.orbit.specs.Placement.{placement}
+use Rattle.orbit.specs.declared.elements.Elements.{Elements}
+use Rattle.orbit.specs.declared.Placement.{Placement}
+use Rattle.orbit.specs.declared.Placement.the-variants as placement
+use Rattle.eclipse.specs.Shade.{shadeCode, shadeAnswer}
+use Rattle.eclipse.specs.declared.ShadeAnswer.{ShadeAnswer}
+use Rattle.eclipse.specs.declared.ShadeAnswer.the-variants as shade
+use Rattle.label_file.specs.Reading.{readingOf}
+use Rattle.label_file.specs.declared.FileReading.{FileReading}
+use Rattle.label_file.specs.declared.FileReading.the-variants as reading
+use Rattle.labelling.specs.Day.{labelling, outputAfter}
+use Rattle.labelling.specs.declared.Labelling.{Labelling}
+use Rattle.labelling.specs.declared.Labelling.the-variants as labelling
+use Rattle.yurdelmiz.specs.Answers.{anomalyBytes, sunBytes, stateBytes, countsBytes}
+use Rattle.yurdelmiz.specs.Buffers.{elementsOf}
+use Rattle.yurdelmiz.specs.Call.{Call, Outcome, refused, given, callOf, statusAt}
+
+-- ---- yurdelmiz_kepler
+abbrev pub anomalyOutcome : Solution → Outcome
+anomalyOutcome (solution.Refused refusal) = refused (numberOf refusal)
+anomalyOutcome (solution.Solved r) = given (anomalyBytes r)
+
+unfoldable pub keplerCall : ℕ → ℕ → List ℕ → Call
+keplerCall e M buffer = callOf (eqb (length buffer) 8) (anomalyOutcome (solution e M)) buffer
+
+-- ---- yurdelmiz_sun
+abbrev pub sunOutcome : SunAnswer → Outcome
+sunOutcome (sun.Refused refusal) = refused (numberOf refusal)
+sunOutcome (sun.Found s) = given (sunBytes s)
+
+unfoldable pub sunCall : ℤ → List ℕ → Call
+sunCall t buffer = callOf (eqb (length buffer) 28) (sunOutcome (sunAnswer t)) buffer
+
+-- ---- yurdelmiz_position
+-- Earth-fixed at the GHAA of the time
+unfoldable pub earthFixedAt : Position → ℤ → Position
+earthFixedAt p t = earthFixedOf p (sunOf t .«greenwich_hour_angle»)
+
+abbrev pub stateOutcome : Placement → ℤ → Outcome
+stateOutcome (placement.Refused refusal) t = refused (numberOf refusal)
+stateOutcome (placement.Placed s) t = given (stateBytes s (earthFixedAt (s .position) t))
+
+unfoldable pub positionCall : List ℕ → ℤ → List ℕ → Call
+positionCall elements t buffer =
+    callOf (eqb (length elements) 48 && eqb (length buffer) 68) (stateOutcome (placement (elementsOf elements) t) t) buffer
+
+-- ---- yurdelmiz_shade
+abbrev pub shadeOutcome : ShadeAnswer → Outcome
+shadeOutcome (shade.Refused refusal) = refused (numberOf refusal)
+shadeOutcome (shade.Shaded s) = given (shadeCode s ∷ [])
+
+unfoldable pub shadeCall : Position → Direction → List ℕ → Call
+shadeCall p sun buffer = callOf (eqb (length buffer) 1) (shadeOutcome (shadeAnswer p sun)) buffer
+
+-- ---- yurdelmiz_label
+abbrev pub labelOutcome : Labelling → List ℕ → Outcome
+labelOutcome (labelling.Refused refusal place) after = refused (statusAt (numberOf refusal) place)
+labelOutcome (labelling.Labelled counts) after = given after
+
+-- the output after labelling with some elements
+unfoldable pub dayOutcome : Elements → List ℕ → List ℕ → Outcome
+dayOutcome el telemetry output = labelOutcome (labelling el telemetry (length output)) (outputAfter el telemetry output)
+
+unfoldable pub labelCall : List ℕ → List ℕ → List ℕ → Call
+labelCall elements telemetry output =
+    callOf (eqb (length elements) 48) (dayOutcome (elementsOf elements) telemetry output) output
+
+-- ---- yurdelmiz_read
+abbrev pub countsOutcome : FileReading → Outcome
+countsOutcome (reading.Refused refusal place) = refused (statusAt (numberOf refusal) place)
+countsOutcome (reading.Accepted counts) = given (countsBytes counts)
+
+unfoldable pub readCall : List ℕ → ℕ → List ℕ → Call
+readCall file size buffer = callOf (eqb (length buffer) 12) (countsOutcome (readingOf file size)) buffer

@@ -1,0 +1,152 @@
+// The C interface, as include/yurdelmiz.h documents it: numbers and byte slices only.
+ghost use mathlib.Core.Path.{_≡_};
+ghost use Rattle.trig.specs.Contract.{CosineAt};
+ghost use Rattle.trig.specs.ExactSine.{SineAt};
+ghost use Rattle.yurdelmiz.specs.Calls.{keplerCall, sunCall, positionCall, shadeCall, labelCall, readCall};
+use eclipse::ShadeAnswer;
+use kepler::Solution;
+use label_file::FileReading;
+use labelling::Labelling;
+use orbit::Placement;
+use position::Position;
+use sun::Direction;
+use sun::SunAnswer;
+
+mod answers;
+mod buffers;
+
+// The status of a buffer whose length is not the header's.
+const BAD_BUFFER: u32 = 255;
+
+#[no_mangle]
+pub extern "C" fn yurdelmiz_sine(angle: u32) -> i64
+    ensures { λ r. ⌜ SineAt angle r ⌝ }
+{
+    trig::sine(angle)
+}
+
+#[no_mangle]
+pub extern "C" fn yurdelmiz_cosine(angle: u32) -> i64
+    ensures { λ r. ⌜ CosineAt angle r ⌝ }
+{
+    trig::cosine(angle)
+}
+
+#[no_mangle]
+pub extern "C" fn yurdelmiz_kepler(eccentricity: u32, mean_anomaly: u32, answer: &mut [u8]) -> u32
+    ensures { λ r. ⌜ record { status = r; answer = now (answer .exit) } ≡ keplerCall eccentricity «mean_anomaly» (now (answer .entry)) ⌝ }
+{
+    if answer.len() != 8 {
+        return BAD_BUFFER;
+    }
+    let solution = kepler::solve(eccentricity, mean_anomaly);
+    match solution {
+        Solution::Refused(refusal) => refusal.number(),
+        Solution::Solved(anomaly) => {
+            answers::write_anomaly(answer, 0, anomaly);
+            0
+        }
+    }
+}
+
+#[no_mangle]
+pub extern "C" fn yurdelmiz_sun(time: i64, answer: &mut [u8]) -> u32
+    ensures { λ r. ⌜ record { status = r; answer = now (answer .exit) } ≡ sunCall time (now (answer .entry)) ⌝ }
+{
+    if answer.len() != 28 {
+        return BAD_BUFFER;
+    }
+    let found = sun::find(time);
+    match found {
+        SunAnswer::Refused(refusal) => refusal.number(),
+        SunAnswer::Found(sun) => {
+            answers::write_sun(answer, sun);
+            0
+        }
+    }
+}
+
+#[no_mangle]
+pub extern "C" fn yurdelmiz_position(elements: &[u8], time: i64, answer: &mut [u8]) -> u32
+    ensures { λ r. ⌜ record { status = r; answer = now (answer .exit) } ≡ positionCall (now (elements .entry)) time (now (answer .entry)) ⌝ }
+{
+    if elements.len() != 48 {
+        return BAD_BUFFER;
+    }
+    if answer.len() != 68 {
+        return BAD_BUFFER;
+    }
+    let placement = orbit::position(buffers::read_elements(elements), time);
+    match placement {
+        Placement::Refused(refusal) => refusal.number(),
+        Placement::Placed(state) => {
+            let sun = sun::sun_at(time);
+            let position = state.position;
+            let earth_fixed = position.earth_fixed(sun.greenwich_hour_angle);
+            answers::write_state(answer, state, earth_fixed);
+            0
+        }
+    }
+}
+
+#[no_mangle]
+pub extern "C" fn yurdelmiz_shade(
+    x: i64,
+    y: i64,
+    z: i64,
+    sun_x: i64,
+    sun_y: i64,
+    sun_z: i64,
+    answer: &mut [u8],
+) -> u32
+    ensures { λ r. ⌜ record { status = r; answer = now (answer .exit) } ≡ shadeCall (record { x = x; y = y; z = z }) (record { x = «sun_x»; y = «sun_y»; z = «sun_z» }) (now (answer .entry)) ⌝ }
+{
+    if answer.len() != 1 {
+        return BAD_BUFFER;
+    }
+    let position = Position { x, y, z };
+    let sun = Direction {
+        x: sun_x,
+        y: sun_y,
+        z: sun_z,
+    };
+    let shaded = eclipse::shade_test(position, sun);
+    match shaded {
+        ShadeAnswer::Refused(refusal) => refusal.number(),
+        ShadeAnswer::Shaded(shade) => {
+            answer[0] = shade.code();
+            0
+        }
+    }
+}
+
+#[no_mangle]
+pub extern "C" fn yurdelmiz_label(elements: &[u8], telemetry: &[u8], output: &mut [u8]) -> u64
+    ensures { λ r. ⌜ record { status = r; answer = now (output .exit) } ≡ labelCall (now (elements .entry)) (now (telemetry .entry)) (now (output .entry)) ⌝ }
+{
+    if elements.len() != 48 {
+        return BAD_BUFFER as u64;
+    }
+    let labelled = labelling::label_day(buffers::read_elements(elements), telemetry, output);
+    match labelled {
+        Labelling::Refused(refusal, place) => answers::status_at(refusal, place),
+        Labelling::Labelled(_) => 0,
+    }
+}
+
+#[no_mangle]
+pub extern "C" fn yurdelmiz_read(file: &[u8], length: usize, answer: &mut [u8]) -> u64
+    ensures { λ r. ⌜ record { status = r; answer = now (answer .exit) } ≡ readCall (now (file .entry)) length (now (answer .entry)) ⌝ }
+{
+    if answer.len() != 12 {
+        return BAD_BUFFER as u64;
+    }
+    let reading = label_file::read(file, length);
+    match reading {
+        FileReading::Refused(refusal, place) => answers::status_at(refusal, place),
+        FileReading::Accepted(counts) => {
+            answers::write_counts(answer, counts);
+            0
+        }
+    }
+}
