@@ -7,12 +7,10 @@ ghost use Rattle.sun.specs.Contract.{WithinOne};
 ghost use Rattle.eclipse.specs.Dot.{dotOf};
 ghost use Rattle.eclipse.specs.Shade.{shadeCode, sideSquared, shadeOf, anyBeyond, shadeAnswer};
 ghost use Rattle.eclipse.specs.Elevation.{HeldAt, NormalAt, ElevationAt};
+use integer::ONE;
 use position::Position;
 use refusal::Refusal;
 use sun::Direction;
-
-// One, in units of 2^-30.
-const ONE: i64 = 0x4000_0000;
 
 // The square of the Earth's radius, 6,378,000 m.
 const EARTH_RADIUS_SQUARED: i64 = 40_678_884_000_000;

@@ -116,11 +116,14 @@ pub fn square_root(n: u64) -> u64
     low
 }
 
+// One, in units of 2^-30.
+pub const ONE: i64 = 0x4000_0000;
+
 // x·y / 2^30, cut toward zero: the product of a length or a part of one, in units of 2^-30, with
 // another. Each caller's bounds keep the product within 2^62.
 pub fn scaled(x: i64, y: i64) -> i64
     requires { ⌜ Within (2 ^ 62) (x *ℤ y) ⌝ }
     ensures { λ r. ⌜ r ≡ quotZ (x *ℤ y) (pos (2 ^ 30)) ⌝ }
 {
-    x * y / 1_073_741_824
+    x * y / ONE
 }

@@ -4,12 +4,9 @@ ghost use Prim.Native.Nat.{_+_, _^_, _≤_};
 ghost use Rattle.kepler.specs.Kepler.{equation, halve};
 ghost use Rattle.kepler.specs.Solution.{AnomalyAt, SolvedBy};
 use refusal::Refusal;
-
-const ONE: u64 = 0x4000_0000;
-
-const HALF_TURN: u64 = 0x8000_0000;
-
-const TURN: u64 = 0x1_0000_0000;
+use trig::HALF_TURN;
+use trig::ONE;
+use trig::TURN;
 
 // An eccentric anomaly, with the number of halvings made.
 pub struct Anomaly {

@@ -11,7 +11,7 @@ fn eccentricity30(e: u32) -> u64
     requires { ⌜ e ≤ 9_000_000 ⌝ }
     ensures { λ r. ⌜ (r ≡ e30 e) × (r ≤ 966_367_641) ⌝ }
 {
-    (e as u64) * 1_073_741_824 / 10_000_000
+    (e as u64) * trig::ONE / 10_000_000
 }
 
 // The ratio of the minor to the major axis, in units of 2^-30.
@@ -43,6 +43,6 @@ pub fn radius(a: u32, e: u32, cosine: i64) -> i64
 {
     integer::scaled(
         a as i64,
-        1_073_741_824 - integer::scaled(eccentricity30(e) as i64, cosine),
+        integer::ONE - integer::scaled(eccentricity30(e) as i64, cosine),
     )
 }

@@ -2,6 +2,7 @@
 // elements to position". The functions are called with elements and a time that passed the checks.
 use crate::elements::Elements;
 use integer::FloorQuotient;
+use trig::TURN;
 ghost use mathlib.Core.Path.{_≡_};
 ghost use Prim.Native.Nat.{_<_, _≤_, _^_};
 ghost use lib.IntN.{pos, _+ℤ_};
@@ -53,14 +54,14 @@ pub fn mean_at(elements: Elements, time: i64) -> MeanMotion
     let t = turns(elements.mean_motion, elapsed(elements, time));
     let whole = t.quotient;
     let sum = elements.mean_anomaly as u64 + part_turn(t.remainder);
-    if sum < 0x1_0000_0000 {
+    if sum < TURN {
         return MeanMotion {
             mean_anomaly: sum as u32,
             revolution: revolution(elements.epoch_revolution, whole),
         };
     }
     MeanMotion {
-        mean_anomaly: (sum - 0x1_0000_0000) as u32,
+        mean_anomaly: (sum - TURN) as u32,
         revolution: revolution(elements.epoch_revolution, whole + 1),
     }
 }
@@ -71,6 +72,6 @@ pub fn drift(angle: u32, rate: i32, elapsed: i64) -> u32
     ensures { λ r. ⌜ r ≡ drifted angle rate elapsed ⌝ }
 {
     let f = integer::floor_div((rate as i64) * elapsed * 262_144, 18_984_375);
-    let g = integer::floor_div((angle as i64) + f.quotient, 0x1_0000_0000);
+    let g = integer::floor_div((angle as i64) + f.quotient, TURN);
     g.remainder as u32
 }

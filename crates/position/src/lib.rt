@@ -6,9 +6,7 @@ ghost use Rattle.integer.specs.Bound.{Within};
 ghost use Rattle.position.specs.Box.{Box};
 ghost use Rattle.position.specs.Contract.{Turned, Celestial};
 ghost use Rattle.position.specs.Turn.{scaledDifference, scaledSum, turnedXY, turnedYZ, earthFixedOf};
-
-// One, in units of 2^-30.
-const ONE: i64 = 0x4000_0000;
+use integer::ONE;
 
 pub struct Position {
     pub x: i64,

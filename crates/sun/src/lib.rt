@@ -10,10 +10,9 @@ ghost use Rattle.trig.specs.Angle.{angleOf};
 ghost use Rattle.sun.specs.Sun.{partTurn, hourAngle, trueLongitude};
 ghost use Rattle.sun.specs.Contract.{CentreAt, DirectionAt, SunAt, SunAnswered};
 use refusal::Refusal;
+use trig::TURN;
 
 const HALF_TURN: i64 = 0x8000_0000;
-
-const TURN: u64 = 0x1_0000_0000;
 
 // A direction in the celestial frame, in units of 2^-30.
 pub struct Direction {

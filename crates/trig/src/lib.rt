@@ -3,16 +3,23 @@ ghost use mathlib.Core.Path.{_≡_};
 ghost use Prim.Native.Nat.{_≤_, _^_};
 ghost use lib.IntN.{natAbs};
 ghost use Rattle.trig.specs.Angle.{angleOf};
-ghost use Rattle.trig.specs.Contract.{Bounded, CosineAt};
+ghost use Rattle.trig.specs.Contract.{Bounded, CosineAt, SinesAt};
 ghost use Rattle.trig.specs.ExactSine.{SineAt};
 ghost use Rattle.trig.specs.Sine.{radians, square, hornerStep, series, quarterSine, S};
 
 // One, in units of 2^-30; as an angle, a quarter turn.
-const ONE: u64 = 0x4000_0000;
+pub const ONE: u64 = 0x4000_0000;
 
-const HALF_TURN: u64 = 0x8000_0000;
+pub const HALF_TURN: u64 = 0x8000_0000;
 
-const TURN: u64 = 0x1_0000_0000;
+pub const TURN: u64 = 0x1_0000_0000;
+
+// An angle with its sine and its cosine, for where these are needed more than once.
+pub struct Sines {
+    pub angle: u32,
+    pub sine: i64,
+    pub cosine: i64,
+}
 
 // The angle of some ten-thousandths of a degree.
 pub fn angle(ten_thousandths: u32) -> u32
@@ -98,4 +105,16 @@ pub fn cosine(angle: u32) -> i64
 {
     let a = (angle as u64 + ONE) % TURN;
     sine(a as u32)
+}
+
+impl Sines {
+    pub fn of(angle: u32) -> Sines
+        ensures { λ r. ⌜ SinesAt angle r ⌝ }
+    {
+        Sines {
+            angle,
+            sine: sine(angle),
+            cosine: cosine(angle),
+        }
+    }
 }
