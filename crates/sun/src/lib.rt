@@ -9,9 +9,8 @@ ghost use Rattle.time.specs.Range.{inRange};
 ghost use Rattle.sun.specs.Sun.{partTurn, hourAngle, trueLongitude};
 ghost use Rattle.sun.specs.Contract.{CentreAt, DirectionAt, SunAt, SunAnswered};
 use refusal::Refusal;
+use trig::HALF_TURN;
 use trig::TURN;
-
-const HALF_TURN: i64 = 0x8000_0000;
 
 // What every time shares is computed once: proofs/Constants.antt has the proof of each of these numbers.
 // MA and ML at 1990 Jan 0.0: angle(3,566,349) and angle(2,794,033).
@@ -103,7 +102,7 @@ fn hour_angle(mean_longitude: u32, time: i64) -> u32
     ensures { λ r. ⌜ r ≡ hourAngle «mean_longitude» time ⌝ }
 {
     let part = part_turn(time, 86_400);
-    wrapped(mean_longitude as i64 - HALF_TURN + part as i64)
+    wrapped(mean_longitude as i64 - HALF_TURN as i64 + part as i64)
 }
 
 fn direction_at(true_longitude: u32) -> Direction

@@ -15,14 +15,17 @@ part-turn-requires c κs = search needs
 cast-wrapped : tie.Need-cast-wrapped
 cast-wrapped c = search needs
 
+cast-wrapped-2 : tie.Need-cast-wrapped-2
+cast-wrapped-2 c = search needs
+
 sub-wrapped : tie.Need-sub-wrapped
 sub-wrapped c =
     let ml = c .before .args .mean-longitude in
     rw (read-angle ml (search needs))
     (sfits-within (within-sub (angle-within ml (search needs)) (within-pos {a = 2 ^ 31} {n = 2 ^ 31} (lit≤ tt))) tt)
 
-cast-wrapped-2 : tie.Need-cast-wrapped-2
-cast-wrapped-2 c = search needs
+cast-wrapped-3 : tie.Need-cast-wrapped-3
+cast-wrapped-3 c = search needs
 
 add-wrapped : tie.Need-add-wrapped
 add-wrapped c =
@@ -54,8 +57,9 @@ hour-angle-spec =
     (tie.spec
     part-turn-requires
     cast-wrapped
-    sub-wrapped
     cast-wrapped-2
+    sub-wrapped
+    cast-wrapped-3
     add-wrapped
     wrapped-requires
     returns)
