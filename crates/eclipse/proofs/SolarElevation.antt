@@ -13,7 +13,8 @@ use Rattle.sun.specs.Contract.{WithinOne}
 use Rattle.sun.specs.declared.Direction.{Direction}
 use Rattle.sun.proofs.Bounds.{within-product}
 use Rattle.eclipse.specs.Dot.{dotOf}
-use Rattle.eclipse.specs.Elevation.{normalOf, heldOf, elevationOf, NormalAt, HeldAt, ElevationAt}
+use Rattle.eclipse.specs.Elevation.{normalOf, heldOf, elevationOf}
+use Rattle.eclipse.specs.Contract.{NormalAt, HeldAt, ElevationAt}
 
 normal-within : (i node : ℕ) → WithinOne (normalOf i node)
 unfolding normalOf

@@ -1,5 +1,6 @@
 -- `eclipse::shade_at` meets its contract. Assumes nothing.
 use mathlib.Core.Path.{_≡_}
+use Prim.Native.Nat.{_^_}
 use lib.Dec.{lit≤}
 use Rattle.integer.specs.Bound.{Within}
 use Rattle.integer.proofs.Bounds.{within-more}
@@ -15,7 +16,7 @@ p-is c =
     let b = c .before .before .before .before .pre .0 in
     rw (read-within (b .x-within) tt, read-within (b .y-within) tt, read-within (b .z-within) tt) at (c .dot .ensures)
 
-p-within : (c : tie.After-dot) → Within 1_450_000_000 (c .dot .result)
+p-within : (c : tie.After-dot) → Within (2 ^ 31) (c .dot .result)
 p-within c = let pre = c .before .before .before .before .pre in rw (p-is c) (projection-within (pre .0) (pre .1))
 
 dot-requires : tie.Need-dot-requires
