@@ -4,13 +4,13 @@ use Prim.Native.Nat.{ℕ, _^_}
 use lib.IntN.{ℤ, pos, negℤ}
 use lib.Signed.{ltZ}
 use Rattle.trig.specs.Sine.{S, C}
-use Rattle.sun.specs.Sun.{product}
+use Rattle.sun.specs.Sun.{scaled}
 use Rattle.sun.specs.declared.Direction.{Direction}
 use Rattle.eclipse.specs.Dot.{dotOf}
 
 -- orbit normal (node as drifted) = S(i)·S(node)/2^30, −(S(i)·C(node)/2^30), C(i)
 unfoldable pub normalOf : ℕ → ℕ → Direction
-normalOf i node = record { x = product (S i) (S node); y = negℤ (product (S i) (C node)); z = C i }
+normalOf i node = record { x = scaled (S i) (S node); y = negℤ (scaled (S i) (C node)); z = C i }
 
 -- held within ±2^30
 unfoldable pub heldOf : ℤ → ℤ

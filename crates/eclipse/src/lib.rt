@@ -13,8 +13,10 @@ use refusal::Refusal;
 use sun::Direction;
 use trig::Sines;
 
-// The square of the Earth's radius, 6,378,000 m.
-const EARTH_RADIUS_SQUARED: i64 = 40_678_884_000_000;
+// The square of the Earth's radius in metres.
+const EARTH_RADIUS_SQUARED: i64 = 6_378_000 * 6_378_000;
+
+const MINUS_ONE: i64 = -ONE;
 
 pub enum Shade {
     Lit,
@@ -118,8 +120,8 @@ fn normal(inclination: Sines, node: Sines) -> Direction
 fn held(sine: i64) -> i64
     ensures { λ r. ⌜ HeldAt sine r ⌝ }
 {
-    if sine < -ONE {
-        return -ONE;
+    if sine < MINUS_ONE {
+        return MINUS_ONE;
     }
     if ONE < sine {
         return ONE;

@@ -9,8 +9,9 @@ ghost use Rattle.time.specs.Range.{inRange};
 ghost use Rattle.sun.specs.Sun.{partTurn, hourAngle, trueLongitude};
 ghost use Rattle.sun.specs.Contract.{CentreAt, DirectionAt, SunAt, SunAnswered};
 use refusal::Refusal;
-use trig::HALF_TURN;
 use trig::TURN;
+
+const HALF_TURN: u32 = trig::HALF_TURN as u32;
 
 // What every time shares is computed once: proofs/Constants.antt has the proof of each of these numbers.
 // MA and ML at 1990 Jan 0.0: angle(3,566,349) and angle(2,794,033).
@@ -98,11 +99,12 @@ fn true_longitude(mean_longitude: u32, mean_anomaly: u32) -> u32
     wrapped(mean_longitude as i64 + centre(mean_anomaly))
 }
 
+// GHAA. Half a turn off an angle is half a turn added to it.
 fn hour_angle(mean_longitude: u32, time: i64) -> u32
     ensures { λ r. ⌜ r ≡ hourAngle «mean_longitude» time ⌝ }
 {
-    let part = part_turn(time, 86_400);
-    wrapped(mean_longitude as i64 - HALF_TURN as i64 + part as i64)
+    let opposite = std::num::wrapping_add_u32(mean_longitude, HALF_TURN);
+    std::num::wrapping_add_u32(opposite, part_turn(time, 86_400))
 }
 
 fn direction_at(true_longitude: u32) -> Direction

@@ -1,16 +1,9 @@
 -- `eclipse::held` meets its contract. Assumes nothing.
-use borrow.Author.Needs.{needs}
 use mir.Facts.{toZ-ofZ}
 use Rattle.eclipse.specs.Elevation.{heldOf}
 use Rattle.eclipse.proofs.SolarElevation.{held-at}
 use Rattle.eclipse.proofs.held.Statement.{statement}
 use Rattle.eclipse.proofs.held.Tie as tie
-
-sub-if1 : tie.Need-sub-if1
-sub-if1 c = search needs
-
-sub-result : tie.Need-sub-result
-sub-result c = search needs
 
 returns : tie.Need-returns
 unfolding heldOf
@@ -35,4 +28,4 @@ returns-3 c =
     rw k (held-at _ (rw (e, f)))
 
 pub held-spec : {M : Type 1} → statement M
-held-spec = tie.close (tie.spec sub-if1 sub-result returns returns-2 returns-3)
+held-spec = tie.close (tie.spec returns returns-2 returns-3)

@@ -9,8 +9,8 @@ use Rattle.integer.proofs.Bounds.{within-mul, within-more, within-pos, within-s
 use Rattle.integer.proofs.TwosComplement.{read-back, read-within}
 use Rattle.trig.specs.Sine.{S, C}
 use Rattle.trig.proofs.Quarters.{S-within, C-within}
-use Rattle.sun.specs.Sun.{product}
-use Rattle.sun.proofs.Bounds.{within-product}
+use Rattle.sun.specs.Sun.{scaled}
+use Rattle.sun.proofs.Bounds.{within-scaled}
 use Rattle.sun.proofs.Components.{same-direction}
 use Rattle.eclipse.specs.Elevation.{normalOf}
 use Rattle.eclipse.proofs.SolarElevation.{normal-at}
@@ -32,7 +32,7 @@ scaled-requires-2 c κs =
     rw (read-within i tt, read-within n tt) (within-more (within-mul i n) (lit≤ tt))
 
 y-is : (c : tie.After-scaled2) → let a = c .before .before .before .before .before .args in
-    toZ w64 (ofZ w64 (c .scaled2 .result)) ≡ product (S (a .inclination .angle)) (C (a .node .angle))
+    toZ w64 (ofZ w64 (c .scaled2 .result)) ≡ scaled (S (a .inclination .angle)) (C (a .node .angle))
 y-is c =
     let p = c .before .before .before .before .before .pre in
     let i = p .0 in
@@ -43,7 +43,7 @@ y-is c =
 sub-t6 : tie.Need-sub-t6
 sub-t6 c =
     rw (y-is c)
-    (sfits-within (within-sub (within-pos {a = 0} {n = 0} (lit≤ tt)) (within-product (S-within _) (C-within _))) tt)
+    (sfits-within (within-sub (within-pos {a = 0} {n = 0} (lit≤ tt)) (within-scaled (S-within _) (C-within _))) tt)
 
 returns : tie.Need-returns
 unfolding normalOf

@@ -1,7 +1,8 @@
 -- `integer::i32_of_bits` meets its contract. Assumes nothing.
 use borrow.Author.Needs.{needs}
-use mathlib.Core.Path.{_≡_, _∙_}
+use mathlib.Core.Path.{_≡_, ap, _∙_}
 use Prim.Native.Nat.{_^_}
+use lib.IntN.{ℤ}
 use lib.Signed.{shrZ}
 use mir.Syntax.{w32, w64}
 use mir.Val.{toZ, ofZ}
@@ -14,7 +15,8 @@ shifted-is : (c : tie.After-i64-of-bits) → toZ w64 (ofZ w64 (shrZ (toZ w64 (of
 shifted-is c =
     let n = c .i64-of-bits in
     let f = c .before .fits .b in
-    rw (read-back (n .result) (n .ok), n .ensures, upper-half (c .before .args .b) (f .fits)) (toZ-ofZ (sfits-widen tt (sfits-toZ f)))
+    let e = ap (λ (z : ℤ). shrZ z (2 ^ 32)) (read-back (n .result) (n .ok) ∙ n .ensures) ∙ upper-half (c .before .args .b) (f .fits) in
+    ap (λ (z : ℤ). toZ w64 (ofZ w64 z)) e ∙ toZ-ofZ (sfits-widen tt (sfits-toZ f))
 
 mul-i64-of-bits : tie.Need-mul-i64-of-bits
 mul-i64-of-bits c = search needs
