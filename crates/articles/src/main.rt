@@ -9,6 +9,10 @@ use orbit::elements::Elements;
 use sun::Direction;
 use sun::Sun;
 use sun::SunAnswer;
+use trig::HALF_TURN;
+use trig::ONE;
+use trig::Sines;
+use trig::TURN;
 ghost use Rattle.sun.specs.Contract.{WithinOne};
 
 const EXAMPLE: i64 = -138_406_500;
@@ -60,17 +64,17 @@ fn angle(name: &[u8], found: u32, article: u32) {
     let exact = found as u64 * 3_600_000;
     text(name);
     text(b" ");
-    ten_thousandths((exact + 0x8000_0000) / 0x1_0000_0000);
+    ten_thousandths((exact + HALF_TURN) / TURN);
     text(b" article ");
     ten_thousandths(article as u64);
-    verdict(apart(exact, article as u64 * 0x1_0000_0000) <= 2 * 0x1_0000_0000);
+    verdict(apart(exact, article as u64 * TURN) <= 2 * TURN);
 }
 
 // A sine beside the article's, to the nearest ten-thousandth; a sine is within 2^30.
 fn component(name: &[u8], found: i64, article: i64) {
     text(name);
     text(b" ");
-    let size = (integer::magnitude(found) % 0x1_0000_0000 * 10_000 + 0x2000_0000) / 0x4000_0000;
+    let size = (integer::magnitude(found) % TURN * 10_000 + ONE / 2) / ONE;
     if found < 0 {
         text(b"-");
     }
@@ -116,7 +120,7 @@ fn of_elevation(inclination: u32, node: u32, sun: Sun)
     requires { ⌜ WithinOne (sun .direction) ⌝ }
 {
     let direction = sun.direction;
-    let sine = eclipse::elevation(inclination, node, direction);
+    let sine = eclipse::elevation(Sines::of(inclination), Sines::of(node), direction);
     component(b"elevation sine", wide(sine), 874);
 }
 

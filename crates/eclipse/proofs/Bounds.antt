@@ -9,10 +9,10 @@ use lib.Signed.{quotZ}
 use Rattle.integer.specs.Bound.{Within}
 use Rattle.integer.proofs.Bounds.{within-add, within-sub, within-mul, within-quot, within-more}
 use Rattle.integer.proofs.Tests.{or-false}
-use Rattle.position.specs.Box.{Box}
 use Rattle.position.specs.declared.Position.{Position}
 use Rattle.sun.specs.Contract.{WithinOne}
 use Rattle.sun.specs.declared.Direction.{Direction}
+use Rattle.eclipse.specs.Contract.{CelestialBox}
 use Rattle.eclipse.specs.Dot.{dotOf}
 use Rattle.eclipse.specs.Shade.{projection, anyBeyond}
 
@@ -36,42 +36,30 @@ dot-sizes (h, k, l, w) =
 
 -- the numbers on the way to the square of the side
 pub record SideSizes (q : Position) (p : ℤ) : Type 0 where
-  pub xx : Within (580_000_000 * 580_000_000) (q .x *ℤ q .x)
-  pub yy : Within (580_000_000 * 580_000_000) (q .y *ℤ q .y)
-  pub zz : Within (290_000_000 * 290_000_000) (q .z *ℤ q .z)
-  pub pp : Within (1_450_000_000 * 1_450_000_000) (p *ℤ p)
-  pub two : Within (2 ^ 62) (q .x *ℤ q .x +ℤ q .y *ℤ q .y)
-  pub three : Within (2 ^ 62) (q .x *ℤ q .x +ℤ q .y *ℤ q .y +ℤ q .z *ℤ q .z)
-  pub whole : Within (2 ^ 62) (q .x *ℤ q .x +ℤ q .y *ℤ q .y +ℤ q .z *ℤ q .z -ℤ p *ℤ p)
+  pub xx : Within (2 ^ 60) (q .x *ℤ q .x)
+  pub yy : Within (2 ^ 60) (q .y *ℤ q .y)
+  pub zz : Within (2 ^ 60) (q .z *ℤ q .z)
+  pub pp : Within (2 ^ 62) (p *ℤ p)
+  pub two : Within (2 ^ 61) (q .x *ℤ q .x +ℤ q .y *ℤ q .y)
+  pub three : Within (3 * 2 ^ 60) (q .x *ℤ q .x +ℤ q .y *ℤ q .y +ℤ q .z *ℤ q .z)
+  pub whole : Within (7 * 2 ^ 60) (q .x *ℤ q .x +ℤ q .y *ℤ q .y +ℤ q .z *ℤ q .z -ℤ p *ℤ p)
 
-pub side-sizes : {q : Position} {p : ℤ} → Box 580_000_000 580_000_000 290_000_000 q × Within 1_450_000_000 p → SideSizes q p
+pub side-sizes : {q : Position} {p : ℤ} → CelestialBox q × Within (2 ^ 31) p → SideSizes q p
 side-sizes (b, h) =
-    let x = within-mul (b .x-within) (b .x-within) in
-    let y = within-mul (b .y-within) (b .y-within) in
-    let z = within-mul (b .z-within) (b .z-within) in
+    let x = within-more (within-mul (b .x-within) (b .x-within)) (lit≤ tt) in
+    let y = within-more (within-mul (b .y-within) (b .y-within)) (lit≤ tt) in
+    let z = within-more (within-mul (b .z-within) (b .z-within)) (lit≤ tt) in
     let p = within-mul h h in
     let s = within-add (within-add x y) z in
-    record {
-      xx = x;
-      yy = y;
-      zz = z;
-      pp = p;
-      two = within-more (within-add x y) (lit≤ tt);
-      three = within-more s (lit≤ tt);
-      whole = within-more (within-sub s p) (lit≤ tt);
-    }
+    record { xx = x; yy = y; zz = z; pp = p; two = within-add x y; three = s; whole = within-sub s p }
 
-pub projection-within : {q : Position} {sun : Direction} → Box 580_000_000 580_000_000 290_000_000 q → WithinOne sun
-    → Within 1_450_000_000 (projection q sun)
+pub projection-within : {q : Position} {sun : Direction} → CelestialBox q → WithinOne sun → Within (2 ^ 31) (projection q sun)
 unfolding dotOf
 projection-within b w =
-    within-more
-    (within-quot
-    (2 ^ 30)
-    (within-add
-    (within-add (within-mul (b .x-within) (w .x-within)) (within-mul (b .y-within) (w .y-within)))
-    (within-mul (b .z-within) (w .z-within))))
-    (lit≤ tt)
+    let x = within-mul (b .x-within) (w .x-within) in
+    let y = within-mul (b .y-within) (w .y-within) in
+    let z = within-mul (b .z-within) (w .z-within) in
+    within-more (within-quot (2 ^ 30) (within-add (within-add x y) z)) (lit≤ tt)
 
 -- three components of which none is beyond the bound
 none-beyond : {bound : ℕ} (x y z : ℤ) → anyBeyond bound x y z ≡ false
@@ -85,7 +73,7 @@ none-beyond {bound} x y z e =
       record { within = ltb-false bound (natAbs z) (g .1) },
     )
 
-pub position-in-box : (q : Position) → anyBeyond 200_000_000 (q .x) (q .y) (q .z) ≡ false → Box 580_000_000 580_000_000 290_000_000 q
+pub position-in-box : (q : Position) → anyBeyond 200_000_000 (q .x) (q .y) (q .z) ≡ false → CelestialBox q
 position-in-box q e =
     let w = none-beyond (q .x) (q .y) (q .z) e in
     record {

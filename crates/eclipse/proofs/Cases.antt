@@ -1,6 +1,6 @@
 -- The cases of the shade rule and of refusal 14, each from the tests that lead to it. Assumes nothing.
 use mathlib.Core.Path.{_≡_}
-use mathlib.Core.Bool.{true, false}
+use mathlib.Core.Bool.{Bool, true, false, cond}
 use Prim.Native.Nat.{_^_}
 use lib.IntN.{ℤ, pos}
 use lib.Signed.{ltZ}
@@ -16,13 +16,9 @@ module _ (q : Position) (sun : Direction) (p : ℤ) (e : p ≡ projection q sun)
   unfolding shadeOf
   lit-before t = rw (← e, t)
 
-  pub lit-beside : ltZ p (pos 0) ≡ true → ltZ (sideSquared q p) (pos (6_378_000 ^ 2)) ≡ false → Lit ≡ shadeOf q sun
+  pub behind : {dark : Bool} → ltZ p (pos 0) ≡ true → ltZ (sideSquared q p) (pos (6_378_000 ^ 2)) ≡ dark → cond dark Dark Lit ≡ shadeOf q sun
   unfolding shadeOf
-  lit-beside t u = rw (← e, t, u)
-
-  pub dark-behind : ltZ p (pos 0) ≡ true → ltZ (sideSquared q p) (pos (6_378_000 ^ 2)) ≡ true → Dark ≡ shadeOf q sun
-  unfolding shadeOf
-  dark-behind t u = rw (← e, t, u)
+  behind t u = rw (← e, t, u)
 
 module _ (q : Position) (sun : Direction) where
   pub position-refused : anyBeyond 200_000_000 (q .x) (q .y) (q .z) ≡ true → Refused Component ≡ shadeAnswer q sun

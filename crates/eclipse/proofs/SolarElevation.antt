@@ -11,16 +11,17 @@ use Rattle.integer.proofs.Bounds.{within-neg}
 use Rattle.trig.proofs.Quarters.{S-within, C-within}
 use Rattle.sun.specs.Contract.{WithinOne}
 use Rattle.sun.specs.declared.Direction.{Direction}
-use Rattle.sun.proofs.Bounds.{within-product}
+use Rattle.sun.proofs.Bounds.{within-scaled}
 use Rattle.eclipse.specs.Dot.{dotOf}
-use Rattle.eclipse.specs.Elevation.{normalOf, heldOf, elevationOf, NormalAt, HeldAt, ElevationAt}
+use Rattle.eclipse.specs.Elevation.{normalOf, heldOf, elevationOf}
+use Rattle.eclipse.specs.Contract.{NormalAt, HeldAt, ElevationAt}
 
 normal-within : (i node : ℕ) → WithinOne (normalOf i node)
 unfolding normalOf
 normal-within i node =
     record {
-      x-within = within-product (S-within i) (S-within node);
-      y-within = search (within-neg, within-product, S-within, C-within);
+      x-within = within-scaled (S-within i) (S-within node);
+      y-within = search (within-neg, within-scaled, S-within, C-within);
       z-within = C-within i;
     }
 

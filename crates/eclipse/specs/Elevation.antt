@@ -1,19 +1,16 @@
 -- The Sun's elevation above the plane of the orbit: document 01, "Sun and shade". Assumes nothing.
-use mathlib.Core.Path.{_≡_}
 use mathlib.Core.Bool.{cond}
 use Prim.Native.Nat.{ℕ, _^_}
 use lib.IntN.{ℤ, pos, negℤ}
 use lib.Signed.{ltZ}
-use Rattle.integer.specs.Bound.{Within}
 use Rattle.trig.specs.Sine.{S, C}
-use Rattle.sun.specs.Contract.{WithinOne}
-use Rattle.sun.specs.Sun.{product}
+use Rattle.sun.specs.Sun.{scaled}
 use Rattle.sun.specs.declared.Direction.{Direction}
 use Rattle.eclipse.specs.Dot.{dotOf}
 
 -- orbit normal (node as drifted) = S(i)·S(node)/2^30, −(S(i)·C(node)/2^30), C(i)
 unfoldable pub normalOf : ℕ → ℕ → Direction
-normalOf i node = record { x = product (S i) (S node); y = negℤ (product (S i) (C node)); z = C i }
+normalOf i node = record { x = scaled (S i) (S node); y = negℤ (scaled (S i) (C node)); z = C i }
 
 -- held within ±2^30
 unfoldable pub heldOf : ℤ → ℤ
@@ -22,15 +19,3 @@ heldOf z = cond (ltZ z (negℤ (pos (2 ^ 30)))) (negℤ (pos (2 ^ 30))) (cond (l
 -- elevation sine = (normal · Sun)/2^30, held within ±2^30
 unfoldable pub elevationOf : ℕ → ℕ → Direction → ℤ
 elevationOf i node sun = let n = normalOf i node in heldOf (dotOf (n .x) (n .y) (n .z) sun)
-
-pub record NormalAt (i node : ℕ) (r : Direction) : Type 0 where
-  pub is : r ≡ normalOf i node
-  pub small : WithinOne r
-
-pub record HeldAt (z r : ℤ) : Type 0 where
-  pub is : r ≡ heldOf z
-  pub small : Within (2 ^ 30) r
-
-pub record ElevationAt (i node : ℕ) (sun : Direction) (r : ℤ) : Type 0 where
-  pub is : r ≡ elevationOf i node sun
-  pub small : Within (2 ^ 30) r

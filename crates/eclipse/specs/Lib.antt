@@ -1,3 +1,4 @@
 pub mod Dot
 pub mod Shade
 pub mod Elevation
+pub mod Contract

@@ -1,11 +1,11 @@
--- Runs of bytes stored one after another, and what they leave at each place. Assumes nothing.
+-- Runs of bytes stored one after another. Assumes nothing.
 use mathlib.Core.Path.{_≡_, refl, sym, ap, _∙_}
-use Prim.Native.Nat.{ℕ, suc, _+_, _/_, _%_, _≤_, _<_}
+use Prim.Native.Nat.{ℕ, suc, _+_, _/_, _%_}
 use native.Mathlib.Nat.{add-zero, add-suc, suc-add}
 use native.Mathlib.Omega.{arith}
-use mathlib.Core.List.{List, [], _∷_, _++_, append-assoc}
-use lib.ListN.{getD, length, set, take, drop, List·getD-append}
-use lib.Seq.{sets, sets-eq, getD-append-add, length-take-le}
+use mathlib.Core.List.{List, [], _∷_, _++_}
+use lib.ListN.{length, set}
+use lib.Seq.{sets}
 use Rattle.endian.specs.LittleEndian.{bytes4, bytes8}
 
 -- a run after another is one run
@@ -29,24 +29,11 @@ sets4 l at a b c d =
     let e3 : at + 3 ≡ suc (suc (suc at)) = omega arith in
     rw (e1, e2, e3)
 
-pub length-bytes4 : (v : ℕ) → length (bytes4 v) ≡ 4
+length-bytes4 : (v : ℕ) → length (bytes4 v) ≡ 4
 unfolding bytes4
 length-bytes4 v = refl
-
-pub length-bytes8 : (v : ℕ) → length (bytes8 v) ≡ 8
-unfolding bytes8 bytes4
-length-bytes8 v = refl
 
 -- two runs of four are the run of eight
 pub then8 : (l m n : List ℕ) (at v : ℕ) → m ≡ sets l at (bytes4 (v % 4294967296)) → n ≡ sets m (at + 4) (bytes4 (v / 4294967296)) → n ≡ sets l at (bytes8 v)
 unfolding bytes8
 then8 l m n at v p q = then l m n at 4 (bytes4 (v % 4294967296)) (bytes4 (v / 4294967296)) (length-bytes4 _) p q
-
--- at the k-th place of a run stands the k-th byte that was stored
-pub getD-sets : (l : List ℕ) (at : ℕ) (bs : List ℕ) (k : ℕ) → at + length bs ≤ length l → k < length bs → getD (sets l at bs) (at + k) 0 ≡ getD bs k 0
-getD-sets l at bs k h j =
-    let n : at ≤ length l = omega arith in
-    ap (λ (m : List ℕ). getD m (at + k) 0) (sets-eq bs l at h ∙ append-assoc (take at l) bs (drop (at + length bs) l))
-    ∙ ap (λ (i : ℕ). getD (take at l ++ (bs ++ drop (at + length bs) l)) (i + k) 0) (sym (length-take-le at l n))
-    ∙ getD-append-add (take at l) (bs ++ drop (at + length bs) l) k 0
-    ∙ List·getD-append bs (drop (at + length bs) l) 0 k j

@@ -34,7 +34,7 @@ pub fn read_i32(bytes: &[u8], at: usize) -> i32
     integer::i32_of_bits(read_u32(bytes, at))
 }
 
-pub fn read_u64(bytes: &[u8], at: usize) -> u64
+fn read_u64(bytes: &[u8], at: usize) -> u64
     requires { ⌜ at + 8 ≤ length (now bytes) ⌝ }
     ensures { λ r. ⌜ r ≡ le8 (now (bytes .entry)) at ⌝ }
 {
@@ -78,7 +78,7 @@ pub fn write_u32(out: &mut [u8], at: usize, v: u32)
     );
 }
 
-pub fn write_u64(out: &mut [u8], at: usize, v: u64)
+fn write_u64(out: &mut [u8], at: usize, v: u64)
     requires { ⌜ at + 8 ≤ length (now out) ⌝ }
     ensures { λ _. ⌜ now (out .exit) ≡ sets (now (out .entry)) at (bytes8 v) ⌝ }
 {

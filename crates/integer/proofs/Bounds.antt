@@ -1,15 +1,15 @@
 -- Bounds of signed numbers: each law gives the bound of a result from those of the operands, and a number within a bound below the
 -- width's half fits. Assumes nothing.
 use Prim.Native.Nat.{ℕ, zero, suc, _+_, _*_, _/_, _^_, _≤_, zero-le, suc-le-suc}
-use native.Mathlib.Nat.{le-trans, lt-of-le-of-lt, mul-le-mul, mod-le, div-zero, div-mul-le-self, le-div-iff-mul-le}
+use native.Mathlib.Nat.{le-trans, lt-of-le-of-lt, mul-le-mul, div-zero, div-mul-le-self, le-div-iff-mul-le}
 use native.Mathlib.Omega.{arith}
 use lib.Dec.{T, ltb, ltb→lt}
 use lib.IntN.{ℤ, pos, negℤ, _+ℤ_, _-ℤ_, _*ℤ_}
-use lib.Signed.{quotZ, remZ}
+use lib.Signed.{quotZ}
 use mir.Syntax.{Width}
 use mir.Val.{SFits, hbits}
 use Rattle.integer.specs.Bound.{Within}
-use Rattle.integer.proofs.Sizes.{natAbs-neg, natAbs-mul, natAbs-add, natAbs-quot, natAbs-rem, mag-natAbs}
+use Rattle.integer.proofs.Sizes.{natAbs-neg, natAbs-mul, natAbs-add, natAbs-quot, mag-natAbs}
 
 pub div-mono : {a b : ℕ} (d : ℕ) → a ≤ b → a / d ≤ b / d
 div-mono {a} {b} zero h = rw (div-zero a, div-zero b) zero-le
@@ -36,9 +36,6 @@ within-mul h k = record { within = rw natAbs-mul (mul-le-mul (h .within) (k .wit
 
 pub within-quot : {a : ℕ} {x : ℤ} (d : ℕ) → Within a x → Within (a / d) (quotZ x (pos d))
 within-quot d h = record { within = rw natAbs-quot (div-mono d (h .within)) }
-
-pub within-rem : {a : ℕ} {x : ℤ} (d : ℕ) → Within a x → Within a (remZ x (pos d))
-within-rem {a} {x} d h = record { within = rw natAbs-rem (le-trans (mod-le _ d) (h .within)) }
 
 pub sfits-within : {w : Width} {a : ℕ} {z : ℤ} → Within a z → T (ltb a (2 ^ hbits w)) → SFits w z
 sfits-within {w} {a} {z} h t =

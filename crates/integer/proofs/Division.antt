@@ -1,7 +1,7 @@
 -- The quotient down and the mod. Assumes nothing.
 use mathlib.Core.Path.{_≡_, ap}
 use Prim.Native.Nat.{ℕ, suc, _+_, _*_, _-_, _/_, _%_, _≤_, _<_}
-use native.Mathlib.Nat.{zero-mul, mod-lt, div-add-mod', div-le-self, le-trans}
+use native.Mathlib.Nat.{zero-mul, mod-lt, div-add-mod'}
 use native.Mathlib.Omega.{arith}
 use lib.IntN.{ℤ, pos, negsuc, _+ℤ_, _*ℤ_}
 use Rattle.integer.specs.Bound.{Within}
@@ -14,10 +14,11 @@ mod-below (pos a) d h = mod-lt a h
 mod-below (negsuc a) d h = omega arith
 
 -- z is the quotient times the divisor, and the remainder
-pub parts-floor : (z : ℤ) (d : ℕ) → 0 < d → up z + dn (floorZ z d) * d ≡ up (floorZ z d) * d + (modZ z d + dn z)
+parts-floor : (z : ℤ) (d : ℕ) → 0 < d → up z + dn (floorZ z d) * d ≡ up (floorZ z d) * d + (modZ z d + dn z)
 parts-floor (pos a) d h = let e = div-add-mod' a d in omega (arith, zero-mul d)
 parts-floor (negsuc a) d h = let e = div-add-mod' a d in let m = mod-lt a h in omega (arith, zero-mul d)
 
+-- the same of signed numbers: what K3 and K8 will cite, that the revolution never falls
 pub floor-law : (z : ℤ) (d : ℕ) → 0 < d → floorZ z d *ℤ pos d +ℤ pos (modZ z d) ≡ z
 floor-law z d h =
     let s = parts-scale (floorZ z d) d in

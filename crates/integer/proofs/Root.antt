@@ -34,7 +34,7 @@ square-below n r s h k = either (decLe s r)
         let l : suc r ≤ s = lt-of-not-le f in
         absurd (omega (arith, mul-le-mul l l))
 
-pub root-unique : (n r : ℕ) → IsRoot n r → r ≡ root n
+root-unique : (n r : ℕ) → IsRoot n r → r ≡ root n
 root-unique n r h =
     let g = root-is n in
     omega (arith, square-below n r (root n) (h .high) (g .low), square-below n (root n) r (g .high) (h .low))

@@ -1,12 +1,12 @@
--- The size of a sum, a product, a quotient and a remainder of signed numbers. Assumes nothing.
+-- The size of a sum, a product and a quotient of signed numbers. Assumes nothing.
 use mathlib.Core.Path.{_≡_, refl}
 use mathlib.Core.Bool.{Bool, true, false, not, cond}
-use Prim.Native.Nat.{ℕ, zero, suc, _+_, _*_, _-_, _/_, _%_, _≤_}
+use Prim.Native.Nat.{ℕ, zero, suc, _+_, _*_, _-_, _/_, _≤_}
 use native.Mathlib.Nat.{le-refl}
 use native.Mathlib.Omega.{arith}
 use lib.Dec.{T, ltb, ltb→lt}
 use lib.IntN.{ℤ, pos, negsuc, negℤ, subℕ, natAbs, _+ℤ_, _*ℤ_}
-use lib.Signed.{mag, quotZ, remZ}
+use lib.Signed.{mag, quotZ}
 
 -- what holds in both cases of a test holds of the choice
 pub cond-ind : (c : Bool) (x y : ℤ) (P : ℤ → Type 0) → (T c → P x) → (T (not c) → P y) → P (cond c x y)
@@ -38,10 +38,6 @@ natAbs-add (negsuc a) (negsuc b) = omega arith
 pub natAbs-quot : (x : ℤ) (d : ℕ) → natAbs (quotZ x (pos d)) ≡ natAbs x / d
 natAbs-quot (pos a) d = refl
 natAbs-quot (negsuc a) d = natAbs-neg (pos (suc a / d))
-
-pub natAbs-rem : (x : ℤ) (d : ℕ) → natAbs (remZ x (pos d)) ≡ natAbs x % d
-natAbs-rem (pos a) d = refl
-natAbs-rem (negsuc a) d = natAbs-neg (pos (suc a % d))
 
 pub mag-natAbs : (z : ℤ) → mag z ≤ natAbs z
 mag-natAbs (pos n) = le-refl n

@@ -1,9 +1,7 @@
 -- Division of signed numbers: document 01, "Units". A quotient cut toward zero is `lib.Signed.quotZ`; this file has the one that is
 -- rounded down, and the mod that is never negative. Assumes nothing.
-use mathlib.Core.Path.{_≡_}
 use Prim.Native.Nat.{ℕ, suc, _-_, _/_, _%_}
 use lib.IntN.{ℤ, pos, negsuc}
-use Rattle.integer.specs.declared.FloorQuotient.{FloorQuotient}
 
 -- z / d down: negsuc a is -1 - a, and so is its quotient
 abbrev pub floorZ : ℤ → ℕ → ℤ
@@ -14,8 +12,3 @@ floorZ (negsuc a) d = negsuc (a / d)
 abbrev pub modZ : ℤ → ℕ → ℕ
 modZ (pos a) d = a % d
 modZ (negsuc a) d = d - suc (a % d)
-
--- the quotient down and its remainder
-pub record FloorDivided (n : ℤ) (d : ℕ) (r : FloorQuotient) : Type 0 where
-  pub quotient-is : r .quotient ≡ floorZ n d
-  pub remainder-is : r .remainder ≡ modZ n d

@@ -1,3 +1,4 @@
 pub mod Bound
 pub mod Division
 pub mod Root
+pub mod Contract

@@ -1,12 +1,12 @@
 // Whole numbers: division rounded down, magnitude, two's-complement bits, the whole square root.
 ghost use mathlib.Core.Path.{_≡_};
-ghost use Prim.Native.Nat.{_<_, _≤_, _^_};
+ghost use Prim.Native.Nat.{_<_, _^_};
 ghost use lib.IntN.{pos, negsuc, natAbs, _*ℤ_};
 ghost use lib.Signed.{mag, quotZ};
 ghost use mir.Syntax.{w32, w64};
 ghost use mir.Val.{ofZ, toZ};
 ghost use Rattle.integer.specs.Bound.{Within};
-ghost use Rattle.integer.specs.Division.{FloorDivided};
+ghost use Rattle.integer.specs.Contract.{FloorDivided};
 ghost use Rattle.integer.specs.Root.{root};
 
 // x where x is not negative, else -1 - x.
@@ -76,27 +76,19 @@ pub fn i64_of_bits(b: u64) -> i64
     }
 }
 
-// The bits of x in two's complement.
+// The bits of x in two's complement: the lower half of those in 64 bits.
 pub fn bits_of_i32(x: i32) -> u32
     ensures { λ r. ⌜ r ≡ ofZ w32 x ⌝ }
 {
-    let m = ones_magnitude(x as i64);
-    if x < 0 {
-        4294967295 - (m as u32)
-    } else {
-        m as u32
-    }
+    (bits_of_i64(x as i64) % 0x1_0000_0000) as u32
 }
 
-// The number whose bits in two's complement are b.
+// The number whose bits in two's complement are b. They are read in the upper half of 64, and the shift
+// down keeps the sign.
 pub fn i32_of_bits(b: u32) -> i32
     ensures { λ r. ⌜ r ≡ toZ w32 b ⌝ }
 {
-    if b < 0x8000_0000 {
-        b as i32
-    } else {
-        below_zero((4294967295 - b) as u64) as i32
-    }
+    (i64_of_bits(b as u64 * 0x1_0000_0000) >> 32) as i32
 }
 
 // The whole square root, down, by halving from 0 and 2^32.

@@ -5,7 +5,8 @@ use Prim.Native.Nat.{ℕ, _+_, _*_, _-_, _/_, _^_, _<_}
 use lib.Dec.{leb}
 use lib.IntN.{ℤ, pos, _+ℤ_, _-ℤ_, _*ℤ_}
 use Rattle.integer.specs.Bound.{Within}
-use Rattle.integer.specs.Division.{FloorDivided, floorZ, modZ}
+use Rattle.integer.specs.Contract.{FloorDivided}
+use Rattle.integer.specs.Division.{floorZ, modZ}
 use Rattle.integer.specs.declared.FloorQuotient.{FloorQuotient}
 use Rattle.orbit.specs.declared.elements.Elements.{Elements}
 use Rattle.orbit.specs.declared.turns.MeanMotion.{MeanMotion}

@@ -7,8 +7,6 @@ use Rattle.trig.specs.Sine.{S}
 use Rattle.kepler.specs.Solution.{solution}
 use Rattle.kepler.specs.declared.Solution.{Solution}
 use Rattle.kepler.specs.declared.Solution.the-variants as solved
-use Rattle.position.specs.declared.Position.{Position}
-use Rattle.sun.specs.declared.Direction.{Direction}
 use Rattle.eclipse.specs.Shade.{shadeCode, shadeAnswer}
 use Rattle.eclipse.specs.declared.ShadeAnswer.{ShadeAnswer}
 use Rattle.eclipse.specs.declared.ShadeAnswer.the-variants as shaded

@@ -11,7 +11,7 @@ use Rattle.integer.specs.Bound.{Within}
 use Rattle.integer.proofs.Bounds.{within-add, within-mul, within-quot, within-more, within-pos}
 use Rattle.trig.specs.Angle.{angleOf}
 use Rattle.trig.proofs.Quarters.{S-within, C-within}
-use Rattle.sun.specs.Sun.{product, centreOf, directionOf}
+use Rattle.sun.specs.Sun.{scaled, centreOf, directionOf}
 use Rattle.sun.specs.Contract.{CentreAt, WithinOne, DirectionAt}
 use Rattle.sun.specs.declared.Direction.{Direction}
 
@@ -24,8 +24,8 @@ module _ (a : ℕ) (h : a < 2 ^ 32) where
   read-angle = toZ-pos w64 (omega arith)
 
 -- the product of two sines is within ±2^30
-pub within-product : {a s : ℤ} → Within (2 ^ 30) a → Within (2 ^ 30) s → Within (2 ^ 30) (product a s)
-within-product h k = within-more (within-quot (2 ^ 30) (within-mul h k)) (lit≤ tt)
+pub within-scaled : {a s : ℤ} → Within (2 ^ 30) a → Within (2 ^ 30) s → Within (2 ^ 30) (scaled a s)
+within-scaled h k = within-more (within-quot (2 ^ 30) (within-mul h k)) (lit≤ tt)
 
 -- the equation of the centre is below two turns
 angle-below : (d : ℕ) → angleOf d < 2 ^ 32
@@ -47,8 +47,8 @@ unfolding directionOf
 direction-within tl =
     record {
       x-within = C-within tl;
-      y-within = within-product (S-within tl) (C-within (angleOf 234_406));
-      z-within = within-product (S-within tl) (S-within (angleOf 234_406));
+      y-within = within-scaled (S-within tl) (C-within (angleOf 234_406));
+      z-within = within-scaled (S-within tl) (S-within (angleOf 234_406));
     }
 
 pub direction-at : {d : Direction} (tl : ℕ) → d ≡ directionOf tl → DirectionAt tl d

@@ -1,3 +1,4 @@
+pub mod Constants
 pub mod PartTurn
 pub mod Components
 pub mod Bounds

@@ -26,12 +26,12 @@ unfoldable pub meanLongitude : ℤ → ℕ
 meanLongitude t = (angleOf 2_794_033 + partTurn (pos 3125 *ℤ t) 98_615_393_676) % 2 ^ 32
 
 -- a·s / 2^30, cut toward zero
-abbrev pub product : ℤ → ℤ → ℤ
-product a s = quotZ (a *ℤ s) (pos (2 ^ 30))
+abbrev pub scaled : ℤ → ℤ → ℤ
+scaled a s = quotZ (a *ℤ s) (pos (2 ^ 30))
 
 -- the equation of the centre: angle(19,151)·S(MA)/2^30 + angle(200)·S(2·MA)/2^30
 unfoldable pub centreOf : ℕ → ℤ
-centreOf ma = product (pos (angleOf 19_151)) (S ma) +ℤ product (pos (angleOf 200)) (S ((ma + ma) % 2 ^ 32))
+centreOf ma = scaled (pos (angleOf 19_151)) (S ma) +ℤ scaled (pos (angleOf 200)) (S ((ma + ma) % 2 ^ 32))
 
 -- TL = ML + angle(19,151)·S(MA)/2^30 + angle(200)·S(2·MA)/2^30
 unfoldable pub trueLongitude : ℕ → ℕ → ℕ
@@ -45,7 +45,7 @@ hourAngle ml t = modZ (pos ml -ℤ pos (2 ^ 31) +ℤ pos (partTurn t 86_400)) (2
 unfoldable pub directionOf : ℕ → Direction
 directionOf tl =
     let ob = angleOf 234_406 in
-    record { x = C tl; y = product (S tl) (C ob); z = product (S tl) (S ob) }
+    record { x = C tl; y = scaled (S tl) (C ob); z = scaled (S tl) (S ob) }
 
 unfoldable pub sunOf : ℤ → Sun
 sunOf t =

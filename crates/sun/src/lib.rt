@@ -6,13 +6,28 @@ ghost use lib.IntN.{pos, _*ℤ_};
 ghost use Rattle.integer.specs.Bound.{Within};
 ghost use Rattle.integer.specs.Division.{modZ};
 ghost use Rattle.time.specs.Range.{inRange};
-ghost use Rattle.trig.specs.Angle.{angleOf};
 ghost use Rattle.sun.specs.Sun.{partTurn, hourAngle, trueLongitude};
 ghost use Rattle.sun.specs.Contract.{CentreAt, DirectionAt, SunAt, SunAnswered};
 use refusal::Refusal;
 use trig::TURN;
 
-const HALF_TURN: i64 = 0x8000_0000;
+const HALF_TURN: u32 = trig::HALF_TURN as u32;
+
+// What every time shares is computed once: proofs/Constants.antt has the proof of each of these numbers.
+// MA and ML at 1990 Jan 0.0: angle(3,566,349) and angle(2,794,033).
+const MEAN_ANOMALY_AT_EPOCH: u32 = 4_254_820_089;
+
+const MEAN_LONGITUDE_AT_EPOCH: u32 = 3_333_411_210;
+
+// The two terms of the equation of the centre: angle(19,151) and angle(200).
+const CENTRE_OF_ONCE: i64 = 22_848_032;
+
+const CENTRE_OF_TWICE: i64 = 238_609;
+
+// C and S of the obliquity of the ecliptic, angle(234,406).
+const OBLIQUITY_COSINE: i64 = 985_129_105;
+
+const OBLIQUITY_SINE: i64 = 427_132_473;
 
 // A direction in the celestial frame, in units of 2^-30.
 pub struct Direction {
@@ -62,10 +77,10 @@ fn part_turn(n: i64, d: u64) -> u32
 // An angle of the Sun, from that at 1990 Jan 0.0 and the divisor of its part turn.
 fn mean_angle(at_epoch: u32, time: i64, divisor: u64) -> u32
     requires { ⌜ Within 3_476_476_799 time × (0 < divisor) × (divisor ≤ 2 ^ 37) ⌝ }
-    ensures { λ r. ⌜ r ≡ (angleOf «at_epoch» + partTurn (pos 3125 *ℤ time) divisor) % 2 ^ 32 ⌝ }
+    ensures { λ r. ⌜ r ≡ («at_epoch» + partTurn (pos 3125 *ℤ time) divisor) % 2 ^ 32 ⌝ }
 {
     let part = part_turn(3125 * time, divisor);
-    std::num::wrapping_add_u32(trig::angle(at_epoch), part)
+    std::num::wrapping_add_u32(at_epoch, part)
 }
 
 // The equation of the centre.
@@ -73,8 +88,8 @@ fn centre(mean_anomaly: u32) -> i64
     ensures { λ r. ⌜ CentreAt «mean_anomaly» r ⌝ }
 {
     let twice = std::num::wrapping_add_u32(mean_anomaly, mean_anomaly);
-    let first = integer::scaled(trig::angle(19_151) as i64, trig::sine(mean_anomaly));
-    let second = integer::scaled(trig::angle(200) as i64, trig::sine(twice));
+    let first = integer::scaled(CENTRE_OF_ONCE, trig::sine(mean_anomaly));
+    let second = integer::scaled(CENTRE_OF_TWICE, trig::sine(twice));
     first + second
 }
 
@@ -84,22 +99,22 @@ fn true_longitude(mean_longitude: u32, mean_anomaly: u32) -> u32
     wrapped(mean_longitude as i64 + centre(mean_anomaly))
 }
 
+// GHAA. Half a turn off an angle is half a turn added to it.
 fn hour_angle(mean_longitude: u32, time: i64) -> u32
     ensures { λ r. ⌜ r ≡ hourAngle «mean_longitude» time ⌝ }
 {
-    let part = part_turn(time, 86_400);
-    wrapped(mean_longitude as i64 - HALF_TURN + part as i64)
+    let opposite = std::num::wrapping_add_u32(mean_longitude, HALF_TURN);
+    std::num::wrapping_add_u32(opposite, part_turn(time, 86_400))
 }
 
 fn direction_at(true_longitude: u32) -> Direction
     ensures { λ r. ⌜ DirectionAt «true_longitude» r ⌝ }
 {
     let s = trig::sine(true_longitude);
-    let obliquity = trig::angle(234_406);
     Direction {
         x: trig::cosine(true_longitude),
-        y: integer::scaled(s, trig::cosine(obliquity)),
-        z: integer::scaled(s, trig::sine(obliquity)),
+        y: integer::scaled(s, OBLIQUITY_COSINE),
+        z: integer::scaled(s, OBLIQUITY_SINE),
     }
 }
 
@@ -108,8 +123,8 @@ pub fn sun_at(time: i64) -> Sun
     requires { ⌜ inRange time ≡ true ⌝ }
     ensures { λ r. ⌜ SunAt time r ⌝ }
 {
-    let mean_anomaly = mean_angle(3_566_349, time, 98_620_103_151);
-    let mean_longitude = mean_angle(2_794_033, time, 98_615_393_676);
+    let mean_anomaly = mean_angle(MEAN_ANOMALY_AT_EPOCH, time, 98_620_103_151);
+    let mean_longitude = mean_angle(MEAN_LONGITUDE_AT_EPOCH, time, 98_615_393_676);
     let true_longitude = true_longitude(mean_longitude, mean_anomaly);
     Sun {
         mean_anomaly,

@@ -1,7 +1,7 @@
 -- `eclipse::elevation` meets its contract. Assumes nothing.
 use borrow.Author.Needs.{needs}
-use mir.Syntax.{w32}
 use mir.Facts.{toZ-ofZ}
+use Rattle.integer.proofs.Bounds.{sfits-within}
 use Rattle.integer.proofs.TwosComplement.{read-back, read-within}
 use Rattle.eclipse.proofs.SolarElevation.{elevation-at}
 use Rattle.eclipse.proofs.elevation.Statement.{statement}
@@ -16,6 +16,9 @@ dot-requires c κs = search needs
 held-requires : tie.Need-held-requires
 held-requires c κs = search needs
 
+cast-result : tie.Need-cast-result
+cast-result c = rw (read-within (c .held .ensures .small) tt) (sfits-within (c .held .ensures .small) tt)
+
 returns : tie.Need-returns
 returns c =
     let n = c .before .before .before .before .before .normal in
@@ -23,7 +26,7 @@ returns c =
     let d = c .before .dot in
     let dot-is = rw (read-within (w .x-within) tt, read-within (w .y-within) tt, read-within (w .z-within) tt) at (d .ensures) in
     let held-at = rw (read-back (d .result) (d .ok)) at (c .held .ensures) in
-    rw (toZ-ofZ {w = w32} {z = c .held .result} (record { sfits = c .held .ok })) (elevation-at (n .ensures) dot-is held-at)
+    rw (toZ-ofZ (cast-result c), read-within (held-at .small) tt) (elevation-at (n .ensures) dot-is held-at)
 
 pub elevation-spec : {M : Type 1} → statement M
-elevation-spec = tie.close (tie.spec normal-requires dot-requires held-requires returns)
+elevation-spec = tie.close (tie.spec normal-requires dot-requires held-requires cast-result returns)

@@ -1,8 +1,11 @@
 -- `eclipse::shade_test` meets its contract. Assumes nothing.
 use borrow.Author.Needs.{needs}
 use mathlib.Core.Path.{_≡_, sym, _∙_}
+use mathlib.Core.Bool.{Bool}
+use Prim.Native.Nat.{ℕ, _^_}
+use lib.IntN.{ℤ}
 use mir.Syntax.{w64}
-use mir.Val.{SFits}
+use mir.Val.{SFits, toZ, ofZ}
 use mir.Facts.{toZ-ofZ}
 use Rattle.eclipse.specs.Shade.{anyBeyond}
 use Rattle.eclipse.proofs.Bounds.{position-in-box, sun-within-one}
@@ -10,23 +13,18 @@ use Rattle.eclipse.proofs.Cases.{position-refused, sun-refused, shaded}
 use Rattle.eclipse.proofs.shade_test.Statement.{statement}
 use Rattle.eclipse.proofs.shade_test.Tie as tie
 
+-- the test of three components as they are read back
+beyond-is : {r : Bool} (bound : ℕ) (x y z : ℤ) → SFits w64 x → SFits w64 y → SFits w64 z
+    → r ≡ anyBeyond bound (toZ w64 (ofZ w64 x)) (toZ w64 (ofZ w64 y)) (toZ w64 (ofZ w64 z)) → r ≡ anyBeyond bound x y z
+beyond-is bound x y z f g h e = rw (toZ-ofZ f, toZ-ofZ g, toZ-ofZ h) at e
+
 position-is : (c : tie.After-any-beyond) → let q = c .before .before .before .before .args .position in
     c .any-beyond .result ≡ anyBeyond 200_000_000 (q .x) (q .y) (q .z)
-position-is c =
-    let q = c .before .before .before .before .args .position in
-    let x : SFits w64 (q .x) = search needs in
-    let y : SFits w64 (q .y) = search needs in
-    let z : SFits w64 (q .z) = search needs in
-    rw (toZ-ofZ x, toZ-ofZ y, toZ-ofZ z) at (c .any-beyond .ensures)
+position-is c = beyond-is _ _ _ _ (search needs) (search needs) (search needs) (c .any-beyond .ensures)
 
 sun-is : (c : tie.After-any-beyond2) → let d = c .before .before .before .before .before .before .before .before .before .args .sun in
-    c .any-beyond2 .result ≡ anyBeyond 0x4000_0000 (d .x) (d .y) (d .z)
-sun-is c =
-    let d = c .before .before .before .before .before .before .before .before .before .args .sun in
-    let x : SFits w64 (d .x) = search needs in
-    let y : SFits w64 (d .y) = search needs in
-    let z : SFits w64 (d .z) = search needs in
-    rw (toZ-ofZ x, toZ-ofZ y, toZ-ofZ z) at (c .any-beyond2 .ensures)
+    c .any-beyond2 .result ≡ anyBeyond (2 ^ 30) (d .x) (d .y) (d .z)
+sun-is c = beyond-is _ _ _ _ (search needs) (search needs) (search needs) (c .any-beyond2 .ensures)
 
 any-beyond-requires : tie.Need-any-beyond-requires
 any-beyond-requires c κs = search needs

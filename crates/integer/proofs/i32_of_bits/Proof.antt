@@ -1,47 +1,34 @@
 -- `integer::i32_of_bits` meets its contract. Assumes nothing.
 use borrow.Author.Needs.{needs}
-use mathlib.Core.Path.{sym, ap, _∙_}
-use native.Mathlib.Omega.{arith}
-use lib.IntN.{negsuc}
+use mathlib.Core.Path.{_≡_, ap, _∙_}
+use Prim.Native.Nat.{_^_}
+use lib.IntN.{ℤ}
+use lib.Signed.{shrZ}
 use mir.Syntax.{w32, w64}
-use mir.Facts.{toZ-ofZ}
-use Rattle.integer.proofs.TwosComplement.{toZ-high}
+use mir.Val.{toZ, ofZ}
+use mir.Facts.{toZ-ofZ, sfits-toZ, sfits-widen}
+use Rattle.integer.proofs.TwosComplement.{read-back, upper-half}
 use Rattle.integer.proofs.i32_of_bits.Statement.{statement}
 use Rattle.integer.proofs.i32_of_bits.Tie as tie
 
+shifted-is : (c : tie.After-i64-of-bits) → toZ w64 (ofZ w64 (shrZ (toZ w64 (ofZ w64 (c .i64-of-bits .result))) (2 ^ 32))) ≡ toZ w32 (c .before .args .b)
+shifted-is c =
+    let n = c .i64-of-bits in
+    let f = c .before .fits .b in
+    let e = ap (λ (z : ℤ). shrZ z (2 ^ 32)) (read-back (n .result) (n .ok) ∙ n .ensures) ∙ upper-half (c .before .args .b) (f .fits) in
+    ap (λ (z : ℤ). toZ w64 (ofZ w64 z)) e ∙ toZ-ofZ (sfits-widen tt (sfits-toZ f))
+
+mul-i64-of-bits : tie.Need-mul-i64-of-bits
+mul-i64-of-bits c = search needs
+
+i64-of-bits-requires : tie.Need-i64-of-bits-requires
+i64-of-bits-requires c κs = search needs
+
 cast-result : tie.Need-cast-result
-cast-result c = search needs
-
-sub-below-zero : tie.Need-sub-below-zero
-sub-below-zero c = search needs
-
-cast-below-zero : tie.Need-cast-below-zero
-cast-below-zero c = search needs
-
-below-zero-requires : tie.Need-below-zero-requires
-below-zero-requires c κs = search needs
-
-cast-result-2 : tie.Need-cast-result-2
-cast-result-2 c =
-    rw (toZ-ofZ {w = w64} {z = c .below-zero .result} (record { sfits = c .below-zero .ok }), c .below-zero .ensures)
-    (record { sfits = omega arith })
+cast-result c = rw (shifted-is c) (sfits-toZ (c .before .fits .b))
 
 returns : tie.Need-returns
-returns c = search needs
-
-returns-2 : tie.Need-returns-2
-returns-2 c =
-    toZ-ofZ (cast-result-2 c) ∙ toZ-ofZ (record { sfits = c .below-zero .ok }) ∙ c .below-zero .ensures
-    ∙ ap negsuc (omega arith) ∙ sym (toZ-high w32 _ (c .before .if1 .left))
+returns c = toZ-ofZ (cast-result c) ∙ shifted-is c
 
 pub i32-of-bits-spec : {M : Type 1} → statement M
-i32-of-bits-spec =
-    tie.close
-    (tie.spec
-    cast-result
-    sub-below-zero
-    cast-below-zero
-    below-zero-requires
-    cast-result-2
-    returns
-    returns-2)
+i32-of-bits-spec = tie.close (tie.spec mul-i64-of-bits i64-of-bits-requires cast-result returns)

@@ -1,61 +1,48 @@
 -- `sun::hour_angle` meets its contract. Assumes nothing.
 use borrow.Author.Needs.{needs}
-use Prim.Native.Nat.{_^_}
-use lib.Dec.{lit≤}
+use mathlib.Core.Path.{_≡_, _∙_}
+use Prim.Native.Nat.{ℕ, suc, _+_, _-_, _%_, _^_, _<_}
+use native.Mathlib.Omega.{arith}
+use lib.Dec.{ltb, ltb→lt, nltb→le}
+use lib.IntN.{pos, negsuc, _+ℤ_, _-ℤ_}
 use mir.Facts.{toZ-ofZ}
-use Rattle.integer.proofs.Bounds.{within-add, within-sub, within-pos, sfits-within}
+use Rattle.integer.specs.Division.{modZ}
+use Rattle.integer.proofs.Sizes.{cond-ind}
 use Rattle.sun.specs.Sun.{hourAngle}
-use Rattle.sun.proofs.Bounds.{angle-within, read-angle}
 use Rattle.sun.proofs.hour_angle.Statement.{statement}
 use Rattle.sun.proofs.hour_angle.Tie as tie
+
+-- half a turn off an angle is half a turn added to it
+half-turn : (ml part : ℕ) → ml < 2 ^ 32 → part < 2 ^ 32
+    → ((ml + 2 ^ 31) % 2 ^ 32 + part) % 2 ^ 32 ≡ modZ (pos ml -ℤ pos (2 ^ 31) +ℤ pos part) (2 ^ 32)
+half-turn ml part h k =
+    let whole = ((ml + 2 ^ 31) % 2 ^ 32 + part) % 2 ^ 32 in
+    let short = suc (2 ^ 31 - suc ml) in
+    cond-ind (ltb ml (2 ^ 31)) (negsuc (2 ^ 31 - suc ml)) (pos (ml - 2 ^ 31)) (λ z. whole ≡ modZ (z +ℤ pos part) (2 ^ 32))
+    (λ t. let b = ltb→lt ml (2 ^ 31) t in
+    cond-ind (ltb part short) (negsuc (short - suc part)) (pos (part - short)) (λ z. whole ≡ modZ z (2 ^ 32))
+    (λ u. let d = ltb→lt part short u in omega arith) (λ u. let d = nltb→le part short u in omega arith))
+    (λ t. let b = nltb→le ml (2 ^ 31) t in omega arith)
+
+wrapping-add-u32-requires : tie.Need-wrapping-add-u32-requires
+wrapping-add-u32-requires c κs = search needs
 
 part-turn-requires : tie.Need-part-turn-requires
 part-turn-requires c κs = search needs
 
-cast-wrapped : tie.Need-cast-wrapped
-cast-wrapped c = search needs
-
-sub-wrapped : tie.Need-sub-wrapped
-sub-wrapped c =
-    let ml = c .before .args .mean-longitude in
-    rw (read-angle ml (search needs))
-    (sfits-within (within-sub (angle-within ml (search needs)) (within-pos {a = 2 ^ 31} {n = 2 ^ 31} (lit≤ tt))) tt)
-
-cast-wrapped-2 : tie.Need-cast-wrapped-2
-cast-wrapped-2 c = search needs
-
-add-wrapped : tie.Need-add-wrapped
-add-wrapped c =
-    let ml = c .before .args .mean-longitude in
-    let part = c .part-turn .result in
-    rw (toZ-ofZ (sub-wrapped c), read-angle ml (search needs), read-angle part (search needs))
-    (sfits-within
-    (within-add
-    (within-sub (angle-within ml (search needs)) (within-pos {a = 2 ^ 31} {n = 2 ^ 31} (lit≤ tt)))
-    (angle-within part (search needs)))
-    tt)
-
-wrapped-requires : tie.Need-wrapped-requires
-wrapped-requires c κs = search needs
+wrapping-add-u32-requires-2 : tie.Need-wrapping-add-u32-requires-2
+wrapping-add-u32-requires-2 c κs = search needs
 
 returns : tie.Need-returns
 unfolding hourAngle
 returns c =
-    let s = c .before .before in
+    let s = c .before .before .before in
     let p = c .before .part-turn in
     let part-is = rw (toZ-ofZ (s .fits .time)) at (p .ensures) in
-    let ml-is = read-angle (s .args .mean-longitude) (search needs) in
-    rw (toZ-ofZ (add-wrapped (c .before)), toZ-ofZ (sub-wrapped (c .before)), ml-is, read-angle (p .result) (search needs), part-is)
-    at (c .wrapped .ensures)
+    rw (c .wrapping-add-u322 .ensures, c .before .before .wrapping-add-u32 .ensures, ← part-is)
+    (half-turn (s .args .mean-longitude) (p .result) (search needs) (search needs))
 
 pub hour-angle-spec : {M : Type 1} → statement M
 hour-angle-spec =
     tie.close
-    (tie.spec
-    part-turn-requires
-    cast-wrapped
-    sub-wrapped
-    cast-wrapped-2
-    add-wrapped
-    wrapped-requires
-    returns)
+    (tie.spec wrapping-add-u32-requires part-turn-requires wrapping-add-u32-requires-2 returns)

@@ -14,20 +14,16 @@ mul-part-turn c =
 part-turn-requires : tie.Need-part-turn-requires
 part-turn-requires c κs = search needs
 
-angle-requires : tie.Need-angle-requires
-angle-requires c κs = search needs
-
 wrapping-add-u32-requires : tie.Need-wrapping-add-u32-requires
 wrapping-add-u32-requires c κs = search needs
 
 returns : tie.Need-returns
 returns c =
-    let s = c .before .before .before in
+    let s = c .before .before in
     let t = toZ-ofZ (s .fits .time) in
     let p = toZ-ofZ (mul-part-turn s) in
     cc
 
 pub mean-angle-spec : {M : Type 1} → statement M
 mean-angle-spec =
-    tie.close
-    (tie.spec mul-part-turn part-turn-requires angle-requires wrapping-add-u32-requires returns)
+    tie.close (tie.spec mul-part-turn part-turn-requires wrapping-add-u32-requires returns)

@@ -4,6 +4,7 @@ use mir.Facts.{toZ-ofZ}
 use Rattle.integer.specs.Bound.{Within}
 use Rattle.time.proofs.Size.{in-range-size}
 use Rattle.sun.specs.Sun.{meanAnomaly, meanLongitude}
+use Rattle.sun.proofs.Constants.{constants}
 use Rattle.sun.proofs.Components.{sun-at}
 use Rattle.sun.proofs.sun_at.Statement.{statement}
 use Rattle.sun.proofs.sun_at.Tie as tie
@@ -31,8 +32,8 @@ unfolding meanAnomaly meanLongitude
 returns c =
     let t = toZ-ofZ (c .before .before .before .before .before .fits .time) in
     sun-at
-    (rw t at (c .before .before .before .before .mean-angle .ensures))
-    (rw t at (c .before .before .before .mean-angle2 .ensures))
+    (rw (constants .mean-anomaly-at-epoch) (rw t at (c .before .before .before .before .mean-angle .ensures)))
+    (rw (constants .mean-longitude-at-epoch) (rw t at (c .before .before .before .mean-angle2 .ensures)))
     (c .before .before .true-longitude .ensures)
     (rw t at (c .before .hour-angle .ensures))
     (c .direction-at .ensures)
