@@ -8,6 +8,7 @@ use native.Mathlib.Omega.{arith}
 use denote.Ref.{now}
 use borrow.Rule.Slice.PartMut.{postOf}
 use lib.ListN.{length, take, drop}
+use Rattle.label_file.specs.File.{longest}
 use Rattle.listing.specs.Window.{lastBytes}
 use Rattle.listing.proofs.Windows.{copied, alone, behind-full}
 use Rattle.listing.proofs.keep_last.Statement.{statement}
@@ -47,10 +48,10 @@ same-length c = search needs
 abbrev rest : tie.Start → List ℕ
 rest s =
     drop (length (take (s .args .n - 0) (drop 0 (now (s .args .block)))))
-    (take (length (now (s .args .window)) - 24592) (drop 24592 (now (s .args .window))))
+    (take (length (now (s .args .window)) - longest) (drop longest (now (s .args .window))))
 
 abbrev after : tie.Start → List ℕ
-after s = postOf 24592 (length (now (s .args .window)) - 24592) (now (s .args .window))
+after s = postOf longest (length (now (s .args .window)) - longest) (now (s .args .window))
 
 written : (c : tie.After-copy) → let s = c .before .before .before .before .before in c .copy .last .1 .0 ≡ take (s .args .n) (now (s .args .block)) ++ rest s
 written c =
@@ -65,9 +66,9 @@ returns c =
     let full = c .if1 .taken in
     record {
       within = record { ordered = omega arith; inside = omega arith };
-      last = ap (λ (ys : List ℕ). take (24592 + n - n) (drop n (take 24592 (now (s .args .window)) ++ (ys ++ after s)))) (written k)
+      last = ap (λ (ys : List ℕ). take (longest + n - n) (drop n (take longest (now (s .args .window)) ++ (ys ++ after s)))) (written k)
           ∙ behind-full (now (s .args .window)) (now (s .args .block)) (rest s) (after s) n (search needs) (search needs) (search needs)
-          ∙ ap (λ (t : Bool). lastBytes (cond t (take 24592 (now (s .args .window))) [] ++ take n (now (s .args .block)))) (sym full);
+          ∙ ap (λ (t : Bool). lastBytes (cond t (take longest (now (s .args .window))) [] ++ take n (now (s .args .block)))) (sym full);
     }
 
 same-length-2 : tie.Need-same-length-2
@@ -81,9 +82,9 @@ returns-2 c =
     let full = c .if1 .left in
     record {
       within = record { ordered = omega arith; inside = omega arith };
-      last = ap (λ (ys : List ℕ). take (24592 + n - 24592) (drop 24592 (take 24592 (now (s .args .window)) ++ (ys ++ after s)))) (written k)
+      last = ap (λ (ys : List ℕ). take (longest + n - longest) (drop longest (take longest (now (s .args .window)) ++ (ys ++ after s)))) (written k)
           ∙ alone (now (s .args .window)) (now (s .args .block)) (rest s) (after s) n (search needs) (search needs) (search needs)
-          ∙ ap (λ (t : Bool). lastBytes (cond t (take 24592 (now (s .args .window))) [] ++ take n (now (s .args .block)))) (sym full);
+          ∙ ap (λ (t : Bool). lastBytes (cond t (take longest (now (s .args .window))) [] ++ take n (now (s .args .block)))) (sym full);
     }
 
 pub keep-last-spec : {M : Type 1} → statement M
