@@ -2,10 +2,10 @@
 use mathlib.Core.Path.{_≡_, refl, sym, ap, _∙_}
 use Prim.Native.Nat.{ℕ, _+_, _-_, _≤_}
 use native.Mathlib.Omega.{arith}
-use mathlib.Core.Bool.{Bool, true, false}
+use mathlib.Core.Bool.{Bool, true, false, cond}
 use lib.Dec.{leb}
 use borrow.Author.Tests.{leb-true, leb-false}
-use mathlib.Core.List.{List, _++_, append-assoc}
+use mathlib.Core.List.{List, [], _++_, append-assoc}
 use lib.ListN.{length, take, drop, take-append-drop, length-append, length-drop}
 use lib.Seq.{length-take-le, take-at, drop-at, drop-append-le, take-length}
 use Rattle.label_file.specs.File.{longest}
@@ -15,6 +15,7 @@ use Rattle.label_file.specs.declared.FileReading.the-variants.{Accepted}
 use Rattle.label_file.proofs.Ahead.{body-ahead, tail-suffices}
 use Rattle.label_file.proofs.Readings.{start-part}
 use Rattle.listing.specs.Window.{lastBytes}
+use Rattle.listing.specs.Contract.{InWindow, Kept}
 
 -- what a copy of the first n bytes takes
 pub copied : (block : List ℕ) (n : ℕ) → take (length (take (n - 0) (drop 0 block))) (take (n - 0) (drop 0 block)) ≡ take n block
@@ -30,23 +31,37 @@ module _ (window block rest post : List ℕ) (n : ℕ) (room : longest ≤ lengt
   both-length : length (take longest window ++ take n block) ≡ longest + n
   both-length = omega (arith, length-append (take longest window) (take n block), first-half, second)
 
-  pub alone : take (longest + n - longest) (drop longest (take longest window ++ ((take n block ++ rest) ++ post))) ≡ lastBytes (take n block)
-  alone =
-      let none : length (take n block) - longest ≡ 0 = omega (arith, second) in
-      ap (take (longest + n - longest)) (drop-at (take longest window) ((take n block ++ rest) ++ post) longest first-half ∙ append-assoc (take n block) rest post)
-      ∙ take-at (take n block) (rest ++ post) (longest + n - longest) (omega (arith, second))
-      ∙ sym (ap (λ (k : ℕ). drop k (take n block)) none)
-
-  pub behind-full : take (longest + n - n) (drop n (take longest window ++ ((take n block ++ rest) ++ post))) ≡ lastBytes (take longest window ++ take n block)
-  behind-full =
+  -- from an index on, up to the end of the bytes read
+  end-part : (k : ℕ) → k ≤ longest + n → take (longest + n - k) (drop k (take longest window ++ ((take n block ++ rest) ++ post))) ≡ drop k (take longest window ++ take n block)
+  end-part k h =
       let both = take longest window ++ take n block in
       let joined : take longest window ++ ((take n block ++ rest) ++ post) ≡ both ++ (rest ++ post) =
       ap (λ (l : List ℕ). take longest window ++ l) (append-assoc (take n block) rest post) ∙ sym (append-assoc (take longest window) (take n block) (rest ++ post)) in
-      let start : n ≡ length both - longest = omega (arith, both-length) in
-      ap (λ (l : List ℕ). take (longest + n - n) (drop n l)) joined
-      ∙ ap (take (longest + n - n)) (drop-append-le n both (rest ++ post) (omega (arith, both-length)))
-      ∙ take-at (drop n both) (rest ++ post) (longest + n - n) (omega (arith, length-drop n both, both-length))
-      ∙ ap (λ (k : ℕ). drop k both) start
+      ap (λ (l : List ℕ). take (longest + n - k) (drop k l)) joined
+      ∙ ap (take (longest + n - k)) (drop-append-le k both (rest ++ post) (omega (arith, both-length)))
+      ∙ take-at (drop k both) (rest ++ post) (longest + n - k) (omega (arith, length-drop k both, both-length))
+
+  last-bytes : (full : Bool) → drop (cond full n longest) (take longest window ++ take n block) ≡ lastBytes (cond full (take longest window) [] ++ take n block)
+  last-bytes true =
+      let start : n ≡ length (take longest window ++ take n block) - longest = omega (arith, both-length) in
+      ap (λ (k : ℕ). drop k (take longest window ++ take n block)) start
+  last-bytes false =
+      let none : 0 ≡ length (take n block) - longest = omega (arith, second) in
+      drop-at (take longest window) (take n block) longest first-half ∙ ap (λ (k : ℕ). drop k (take n block)) none
+
+  in-window : (full : Bool) → InWindow (record { first = cond full n longest; end = longest + n })
+  in-window true = record { ordered = omega arith; inside = omega arith }
+  in-window false = record { ordered = omega arith; inside = omega arith }
+
+  pub kept : (full : Bool) {ys : List ℕ} → ys ≡ take n block ++ rest
+      → Kept window block n full (take longest window ++ (ys ++ post)) (record { first = cond full n longest; end = longest + n })
+  kept full {ys} e =
+      let first = cond full n longest in
+      record {
+        within = in-window full;
+        last = ap (λ (l : List ℕ). take (longest + n - first) (drop first (take longest window ++ (l ++ post)))) e
+            ∙ end-part first (in-window full .ordered) ∙ last-bytes full;
+      }
 
 -- ---- reading the last bytes of an input is reading all of it
 
