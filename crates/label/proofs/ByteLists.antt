@@ -11,43 +11,15 @@ use Rattle.label.specs.Codec.{AllBytes}
 
 -- ---- every element a byte
 
-append : (a b : List ℕ) → ((i : ℕ) → getD a i 0 < 256) → ((i : ℕ) → getD b i 0 < 256) → (i : ℕ) → getD (a ++ b) i 0 < 256
-append [] b h k i = k i
-append (x ∷ a) b h k zero = h 0
-append (x ∷ a) b h k (suc i) = append a b (λ j. h (suc j)) k i
+taken : (n : ℕ) (l : List ℕ) → ((i : ℕ) → getD l i 0 < 256) → (i : ℕ) → getD (take n l) i 0 < 256
+taken zero l h i = omega arith
+taken (suc n) [] h i = omega arith
+taken (suc n) (x ∷ l) h zero = h 0
+taken (suc n) (x ∷ l) h (suc i) = taken n l (λ j. h (suc j)) i
 
-pub all-append : {a b : List ℕ} → AllBytes a → AllBytes b → AllBytes (a ++ b)
-all-append {a} {b} h k = record { byte = append a b (h .byte) (k .byte) }
-
-pub all-four : {a b c d : ℕ} → a < 256 → b < 256 → c < 256 → d < 256 → AllBytes (a ∷ b ∷ c ∷ d ∷ [])
-all-four {a} {b} {c} {d} p q r s = record { byte = at }
-  where
-    at : (i : ℕ) → getD (a ∷ b ∷ c ∷ d ∷ []) i 0 < 256
-    at zero = p
-    at (suc zero) = q
-    at (suc (suc zero)) = r
-    at (suc (suc (suc zero))) = s
-    at (suc (suc (suc (suc i)))) = omega arith
-
-pub all-bytes4 : (v : ℕ) → AllBytes (bytes4 v)
-unfolding bytes4
-all-bytes4 v = all-four (omega arith) (omega arith) (omega arith) (omega arith)
-
-pub all-bytes8 : (v : ℕ) → AllBytes (bytes8 v)
-unfolding bytes8
-all-bytes8 v = all-append (all-bytes4 (v % 4294967296)) (all-bytes4 (v / 4294967296))
-
-part : (n : ℕ) (l : List ℕ) → ((i : ℕ) → getD l i 0 < 256) → (i : ℕ) → getD (take n l) i 0 < 256
-part zero l h i = omega arith
-part (suc n) [] h i = omega arith
-part (suc n) (x ∷ l) h zero = h 0
-part (suc n) (x ∷ l) h (suc i) = part n l (λ j. h (suc j)) i
-
-pub all-take : {l : List ℕ} (n : ℕ) → AllBytes l → AllBytes (take n l)
-all-take {l} n h = record { byte = part n l (h .byte) }
-
-pub all-drop : {l : List ℕ} (n : ℕ) → AllBytes l → AllBytes (drop n l)
-all-drop {l} n h = record { byte = λ i. rw getD-drop (h .byte (n + i)) }
+-- of a part
+pub all-part : {l : List ℕ} (n k : ℕ) → AllBytes l → AllBytes (take n (drop k l))
+all-part {l} n k all = record { byte = taken n (drop k l) (λ i. rw getD-drop (all .byte (k + i))) }
 
 -- ---- the number that bytes make
 

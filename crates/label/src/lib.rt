@@ -5,12 +5,14 @@ ghost use lib.IntN.{pos, _+ℤ_};
 ghost use lib.ListN.{length};
 ghost use lib.Seq.{sets};
 ghost use Rattle.label.specs.Sides.{sideOf};
-ghost use Rattle.label.specs.Layout.{labelBytes};
+ghost use Rattle.label.specs.Layout.{labelBytes, fieldsAt, labelOf};
 ghost use Rattle.label.specs.Codec.{decoded};
 use telemetry::Reading;
 
 mod fields;
 mod rules;
+
+pub const SIZE: usize = 24;
 
 pub struct Label {
     pub time: i64,
@@ -65,7 +67,7 @@ pub fn encode(label: Label, out: &mut [u8], at: usize)
 pub fn decode(part: &[u8]) -> Decoded
     ensures { λ r. ⌜ r ≡ decoded (now (part .entry)) ⌝ }
 {
-    if part.len() != 24 {
+    if part.len() != SIZE {
         return Decoded::Broken;
     }
     let fields = fields::fields_at(part);
@@ -74,4 +76,13 @@ pub fn decode(part: &[u8]) -> Decoded
     } else {
         Decoded::Broken
     }
+}
+
+// The label that a part's fields make. Whoever lists an accepted file has judged its parts by then, which
+// is what the `requires` stands for: no test of the rules is made again.
+pub fn of_part(part: &[u8]) -> Label
+    requires { ⌜ 24 ≤ length (now part) ⌝ }
+    ensures { λ r. ⌜ r ≡ labelOf (fieldsAt (now (part .entry))) ⌝ }
+{
+    fields::label_of(fields::fields_at(part))
 }

@@ -41,7 +41,7 @@ pub fn keeps_rules(fields: Fields) -> bool
     if 2 < fields.code {
         return false;
     }
-    if fields.zero != 0 {
+    if fields.padding != 0 {
         return false;
     }
     if !elevation_allowed(fields.elevation) {

@@ -3,3 +3,4 @@ pub mod Counts
 pub mod Trailer
 pub mod File
 pub mod Reading
+pub mod Contract

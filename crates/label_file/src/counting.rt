@@ -2,7 +2,8 @@
 ghost use mathlib.Core.Path.{_≡_};
 ghost use lib.Dec.{eqb};
 ghost use Rattle.label_file.specs.Sequence.{bit};
-ghost use Rattle.label_file.specs.Counts.{counted, sameCounts, Countable};
+ghost use Rattle.label_file.specs.Counts.{counted, sameCounts};
+ghost use Rattle.label_file.specs.Contract.{Countable};
 use crate::Counts;
 use label::Label;
 
@@ -27,7 +28,7 @@ impl Counts {
         }
     }
 
-    pub fn same(self, other: Counts) -> bool
+    pub(crate) fn same(self, other: Counts) -> bool
         ensures { λ r. ⌜ r ≡ sameCounts self other ⌝ }
     {
         self.training == other.training && self.test == other.test

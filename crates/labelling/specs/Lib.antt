@@ -1,2 +1,3 @@
 pub mod Record
 pub mod Day
+pub mod Contract

@@ -8,7 +8,8 @@ use Rattle.orbit.specs.declared.elements.Elements.{Elements}
 use Rattle.label_file.specs.File.{fileOf}
 use Rattle.label_file.specs.Trailer.{distanceBack}
 use Rattle.label_file.specs.declared.Counts.{Counts}
-use Rattle.labelling.specs.Day.{records, labelAt, outputAfter, outputBy, LabelledDay}
+use Rattle.labelling.specs.Contract.{LabelledDay}
+use Rattle.labelling.specs.Day.{records, labelAt, outputAfter, outputBy}
 use Rattle.labelling.specs.declared.Labelling.{Labelling}
 use Rattle.labelling.specs.declared.Labelling.the-variants.{Labelled, Refused}
 use Rattle.yurdelmiz.specs.Call.{refused, given, statusAt}

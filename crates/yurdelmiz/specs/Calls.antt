@@ -22,7 +22,7 @@ use Rattle.orbit.specs.declared.Placement.the-variants as placement
 use Rattle.eclipse.specs.Shade.{shadeCode, shadeAnswer}
 use Rattle.eclipse.specs.declared.ShadeAnswer.{ShadeAnswer}
 use Rattle.eclipse.specs.declared.ShadeAnswer.the-variants as shade
-use Rattle.label_file.specs.Reading.{readingOf}
+use Rattle.label_file.specs.Reading.{bufferReading}
 use Rattle.label_file.specs.declared.FileReading.{FileReading}
 use Rattle.label_file.specs.declared.FileReading.the-variants as reading
 use Rattle.labelling.specs.Day.{labelling, outputAfter}
@@ -88,4 +88,4 @@ countsOutcome (reading.Refused refusal place) = refused (statusAt (numberOf refu
 countsOutcome (reading.Accepted counts) = given (countsBytes counts)
 
 unfoldable pub readCall : List ℕ → ℕ → List ℕ → Call
-readCall file size buffer = callOf (eqb (length buffer) 12) (countsOutcome (readingOf file size)) buffer
+readCall file size buffer = callOf (eqb (length buffer) 12) (countsOutcome (bufferReading file size)) buffer

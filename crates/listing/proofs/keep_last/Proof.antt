@@ -1,15 +1,15 @@
 -- `listing::keep_last` meets its contract. Assumes nothing.
 use borrow.Author.Needs.{needs}
-use mathlib.Core.Path.{_≡_, _∙_, sym, ap}
-use mathlib.Core.Bool.{Bool, cond}
-use mathlib.Core.List.{List, [], _++_}
+use mathlib.Core.Path.{_≡_, _∙_, ap}
+use mathlib.Core.Bool.{Bool, true, false, cond}
+use mathlib.Core.List.{List, _++_}
 use Prim.Native.Nat.{ℕ, _-_, _+_}
-use native.Mathlib.Omega.{arith}
 use denote.Ref.{now}
 use borrow.Rule.Slice.PartMut.{postOf}
 use lib.ListN.{length, take, drop}
-use Rattle.listing.specs.Window.{lastBytes}
-use Rattle.listing.proofs.Windows.{copied, alone, behind-full}
+use Rattle.label_file.specs.File.{longest}
+use Rattle.listing.specs.Contract.{Kept}
+use Rattle.listing.proofs.Windows.{copied, kept}
 use Rattle.listing.proofs.keep_last.Statement.{statement}
 use Rattle.listing.proofs.keep_last.Tie as tie
 
@@ -47,44 +47,30 @@ same-length c = search needs
 abbrev rest : tie.Start → List ℕ
 rest s =
     drop (length (take (s .args .n - 0) (drop 0 (now (s .args .block)))))
-    (take (length (now (s .args .window)) - 24592) (drop 24592 (now (s .args .window))))
+    (take (length (now (s .args .window)) - longest) (drop longest (now (s .args .window))))
 
 abbrev after : tie.Start → List ℕ
-after s = postOf 24592 (length (now (s .args .window)) - 24592) (now (s .args .window))
+after s = postOf longest (length (now (s .args .window)) - longest) (now (s .args .window))
 
 written : (c : tie.After-copy) → let s = c .before .before .before .before .before in c .copy .last .1 .0 ≡ take (s .args .n) (now (s .args .block)) ++ rest s
 written c =
     let s = c .before .before .before .before .before in
     c .copy .ensures .1 ∙ ap (λ (l : List ℕ). l ++ rest s) (copied (now (s .args .block)) (s .args .n))
 
+kept-as : (c : tie.After-copy) (full : Bool) → let a = c .before .before .before .before .before .args in let s = c .before .before .before .before .before in
+    Kept (now (a .window)) (now (a .block)) (a .n) full (take longest (now (a .window)) ++ (c .copy .last .1 .0 ++ after s)) (record { first = cond full (a .n) longest; end = longest + a .n })
+kept-as c full =
+    let s = c .before .before .before .before .before in
+    kept (now (s .args .window)) (now (s .args .block)) (rest s) (after s) (s .args .n) (search needs) (search needs) (search needs) full (written c)
+
 returns : tie.Need-returns
-returns c =
-    let k = c .before .before .before in
-    let s = k .before .before .before .before .before in
-    let n = s .args .n in
-    let full = c .if1 .taken in
-    record {
-      within = record { ordered = omega arith; inside = omega arith };
-      last = ap (λ (ys : List ℕ). take (24592 + n - n) (drop n (take 24592 (now (s .args .window)) ++ (ys ++ after s)))) (written k)
-          ∙ behind-full (now (s .args .window)) (now (s .args .block)) (rest s) (after s) n (search needs) (search needs) (search needs)
-          ∙ ap (λ (t : Bool). lastBytes (cond t (take 24592 (now (s .args .window))) [] ++ take n (now (s .args .block)))) (sym full);
-    }
+returns c = rw (c .if1 .taken) (kept-as (c .before .before .before) true)
 
 same-length-2 : tie.Need-same-length-2
 same-length-2 c = search needs
 
 returns-2 : tie.Need-returns-2
-returns-2 c =
-    let k = c .before .before .before in
-    let s = k .before .before .before .before .before in
-    let n = s .args .n in
-    let full = c .if1 .left in
-    record {
-      within = record { ordered = omega arith; inside = omega arith };
-      last = ap (λ (ys : List ℕ). take (24592 + n - 24592) (drop 24592 (take 24592 (now (s .args .window)) ++ (ys ++ after s)))) (written k)
-          ∙ alone (now (s .args .window)) (now (s .args .block)) (rest s) (after s) n (search needs) (search needs) (search needs)
-          ∙ ap (λ (t : Bool). lastBytes (cond t (take 24592 (now (s .args .window))) [] ++ take n (now (s .args .block)))) (sym full);
-    }
+returns-2 c = rw (c .if1 .left) (kept-as (c .before .before .before) false)
 
 pub keep-last-spec : {M : Type 1} → statement M
 keep-last-spec =

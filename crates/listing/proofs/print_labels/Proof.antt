@@ -1,14 +1,14 @@
 -- `listing::print_labels` meets its contract. Assumes nothing.
-use Prim.Native.Nat.{_≤_, _-_}
 use borrow.Author.Needs.{needs}
+use Prim.Native.Nat.{_≤_, _-_}
 use Rattle.listing.proofs.print_labels.Statement.{statement}
 use Rattle.listing.proofs.print_labels.Tie as tie
 
 abbrev Inv-loop : tie.InvT-loop
-Inv-loop file labels size number₀ number = number ≤ labels
+Inv-loop file counts labels number₀ number = number ≤ labels
 
 abbrev μ-loop : tie.MeasureT-loop
-μ-loop file labels size number₀ number = labels - number
+μ-loop file counts labels number₀ number = labels - number
 
 loop-holds : tie.Need-loop-holds Inv-loop μ-loop
 loop-holds c = search needs
@@ -16,14 +16,8 @@ loop-holds c = search needs
 label-at-requires : tie.Need-label-at-requires Inv-loop μ-loop
 label-at-requires c κs = search needs
 
-enum-known-found : tie.Need-enum-known-found Inv-loop μ-loop
-enum-known-found c = search needs
-
 print-label-requires : tie.Need-print-label-requires Inv-loop μ-loop
 print-label-requires c κs = search needs
-
-enum-told : tie.Need-enum-told Inv-loop μ-loop
-enum-told c = search needs
 
 add-number : tie.Need-add-number Inv-loop μ-loop
 add-number c = search needs
@@ -45,9 +39,7 @@ print-labels-spec =
     μ-loop
     loop-holds
     label-at-requires
-    enum-known-found
     print-label-requires
-    enum-told
     add-number
     loop-less
     loop-again

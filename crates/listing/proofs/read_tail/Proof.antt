@@ -2,11 +2,12 @@
 use mathlib.Core.Path.{_≡_}
 use borrow.Author.Needs.{needs}
 use lib.ListN.{length}
+use Rattle.label_file.specs.File.{longest}
 use Rattle.listing.proofs.read_tail.Statement.{statement}
 use Rattle.listing.proofs.read_tail.Tie as tie
 
 abbrev Inv-loop : tie.InvT-loop
-Inv-loop window₀ block₀ full₀ turns₀ window block full turns = (length window ≡ length window₀) × (length block ≡ 24592)
+Inv-loop window₀ block₀ full₀ turns₀ window block full turns = (length window ≡ length window₀) × (length block ≡ longest)
 
 abbrev μ-loop : tie.MeasureT-loop
 μ-loop window₀ block₀ full₀ turns₀ window block full turns = turns
@@ -14,11 +15,23 @@ abbrev μ-loop : tie.MeasureT-loop
 loop-holds : tie.Need-loop-holds Inv-loop μ-loop
 loop-holds c = search needs
 
-slice-aggregate-read-full : tie.Need-slice-aggregate-read-full Inv-loop μ-loop
-slice-aggregate-read-full c = search needs
+slice-aggregate-fill : tie.Need-slice-aggregate-fill Inv-loop μ-loop
+slice-aggregate-fill c = search needs
 
-read-full-requires : tie.Need-read-full-requires Inv-loop μ-loop
-read-full-requires c κs = search needs
+fill-requires : tie.Need-fill-requires Inv-loop μ-loop
+fill-requires c κs = search needs
+
+enum-known-filled : tie.Need-enum-known-filled Inv-loop μ-loop
+enum-known-filled c = search needs
+
+enum-told : tie.Need-enum-told Inv-loop μ-loop
+enum-told c = search needs
+
+same-length : tie.Need-same-length Inv-loop μ-loop
+same-length c = search needs
+
+returns : tie.Need-returns Inv-loop μ-loop
+returns c = search needs
 
 slice-aggregate-keep-last : tie.Need-slice-aggregate-keep-last Inv-loop μ-loop
 slice-aggregate-keep-last c = search needs
@@ -26,11 +39,11 @@ slice-aggregate-keep-last c = search needs
 keep-last-requires : tie.Need-keep-last-requires Inv-loop μ-loop
 keep-last-requires c κs = search needs
 
-same-length : tie.Need-same-length Inv-loop μ-loop
-same-length c = search needs
+same-length-2 : tie.Need-same-length-2 Inv-loop μ-loop
+same-length-2 c = search needs
 
-returns : tie.Need-returns Inv-loop μ-loop
-returns c = search needs
+returns-2 : tie.Need-returns-2 Inv-loop μ-loop
+returns-2 c = search needs
 
 slice-aggregate-copy : tie.Need-slice-aggregate-copy Inv-loop μ-loop
 slice-aggregate-copy c = search needs
@@ -47,11 +60,11 @@ loop-less c = search needs
 loop-again : tie.Need-loop-again Inv-loop μ-loop
 loop-again c = search needs
 
-same-length-2 : tie.Need-same-length-2 Inv-loop μ-loop
-same-length-2 c = search needs
+same-length-3 : tie.Need-same-length-3 Inv-loop μ-loop
+same-length-3 c = search needs
 
-returns-2 : tie.Need-returns-2 Inv-loop μ-loop
-returns-2 c = search needs
+returns-3 : tie.Need-returns-3 Inv-loop μ-loop
+returns-3 c = search needs
 
 pub read-tail-spec : {M : Type 1} → statement M
 read-tail-spec =
@@ -60,16 +73,20 @@ read-tail-spec =
     Inv-loop
     μ-loop
     loop-holds
-    slice-aggregate-read-full
-    read-full-requires
-    slice-aggregate-keep-last
-    keep-last-requires
+    slice-aggregate-fill
+    fill-requires
+    enum-known-filled
+    enum-told
     same-length
     returns
+    slice-aggregate-keep-last
+    keep-last-requires
+    same-length-2
+    returns-2
     slice-aggregate-copy
     copy-requires
     sub-turns
     loop-less
     loop-again
-    same-length-2
-    returns-2)
+    same-length-3
+    returns-3)

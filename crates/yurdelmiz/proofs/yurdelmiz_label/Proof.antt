@@ -1,7 +1,7 @@
 -- `yurdelmiz::yurdelmiz_label` meets its contract. Assumes nothing.
 use borrow.Author.Tests.{eq-eqb, ne-eqb}
 use denote.Ref.{now}
-use Rattle.labelling.specs.Day.{LabelledDay}
+use Rattle.labelling.specs.Contract.{LabelledDay}
 use Rattle.yurdelmiz.specs.Buffers.{elementsOf}
 use Rattle.yurdelmiz.specs.Calls.{labelCall}
 use Rattle.yurdelmiz.proofs.Endings.{bad-buffer, ends-refused, ends-given}

@@ -9,7 +9,7 @@ use borrow.Author.Tests.{not-true, not-false}
 use Rattle.time.specs.Range.{inRange}
 use Rattle.label.specs.Sides.{sideOf}
 use Rattle.label.specs.Rules.{shadeAllowed, elevationAllowed}
-use Rattle.label.proofs.RuleCases.{time-broken, side-broken, shade-broken, code-broken, zero-broken, elevation-broken, watts-tell}
+use Rattle.label.proofs.RuleCases.{time-broken, side-broken, shade-broken, code-broken, padding-broken, elevation-broken, watts-tell}
 use Rattle.label.proofs.rules.keeps_rules.Statement.{statement}
 use Rattle.label.proofs.rules.keeps_rules.Tie as tie
 
@@ -97,7 +97,7 @@ returns-5 c =
     let e4 = c .before .before in
     let e3 = after3 e4 in
     let e2 = after2 e3 in
-    zero-broken _ (time-kept (after1 e2)) (side-kept e2) (shade-kept e3) (e4 .if4 .left) (c .if5 .taken)
+    padding-broken _ (time-kept (after1 e2)) (side-kept e2) (shade-kept e3) (e4 .if4 .left) (c .if5 .taken)
 
 elevation-allowed-requires : tie.Need-elevation-allowed-requires
 elevation-allowed-requires c κs = search needs
