@@ -9,7 +9,7 @@ use lib.Signed.{quotZ}
 use Rattle.integer.specs.Bound.{Within}
 use Rattle.integer.proofs.Bounds.{within-add, within-sub, within-mul, within-quot, within-more}
 use Rattle.integer.proofs.Tests.{or-false}
-use Rattle.position.specs.Box.{Box}
+use Rattle.position.specs.Box.{CelestialBox}
 use Rattle.position.specs.declared.Position.{Position}
 use Rattle.sun.specs.Contract.{WithinOne}
 use Rattle.sun.specs.declared.Direction.{Direction}
@@ -44,7 +44,7 @@ pub record SideSizes (q : Position) (p : ℤ) : Type 0 where
   pub three : Within (2 ^ 62) (q .x *ℤ q .x +ℤ q .y *ℤ q .y +ℤ q .z *ℤ q .z)
   pub whole : Within (2 ^ 62) (q .x *ℤ q .x +ℤ q .y *ℤ q .y +ℤ q .z *ℤ q .z -ℤ p *ℤ p)
 
-pub side-sizes : {q : Position} {p : ℤ} → Box 580_000_000 580_000_000 290_000_000 q × Within 1_450_000_000 p → SideSizes q p
+pub side-sizes : {q : Position} {p : ℤ} → CelestialBox q × Within 1_450_000_000 p → SideSizes q p
 side-sizes (b, h) =
     let x = within-mul (b .x-within) (b .x-within) in
     let y = within-mul (b .y-within) (b .y-within) in
@@ -61,7 +61,7 @@ side-sizes (b, h) =
       whole = within-more (within-sub s p) (lit≤ tt);
     }
 
-pub projection-within : {q : Position} {sun : Direction} → Box 580_000_000 580_000_000 290_000_000 q → WithinOne sun
+pub projection-within : {q : Position} {sun : Direction} → CelestialBox q → WithinOne sun
     → Within 1_450_000_000 (projection q sun)
 unfolding dotOf
 projection-within b w =
@@ -85,7 +85,7 @@ none-beyond {bound} x y z e =
       record { within = ltb-false bound (natAbs z) (g .1) },
     )
 
-pub position-in-box : (q : Position) → anyBeyond 200_000_000 (q .x) (q .y) (q .z) ≡ false → Box 580_000_000 580_000_000 290_000_000 q
+pub position-in-box : (q : Position) → anyBeyond 200_000_000 (q .x) (q .y) (q .z) ≡ false → CelestialBox q
 position-in-box q e =
     let w = none-beyond (q .x) (q .y) (q .z) e in
     record {

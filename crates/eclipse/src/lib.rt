@@ -2,7 +2,8 @@
 ghost use mathlib.Core.Path.{_≡_};
 ghost use Prim.Native.Nat.{_^_};
 ghost use Rattle.integer.specs.Bound.{Within};
-ghost use Rattle.position.specs.Box.{Box};
+ghost use Rattle.position.specs.Box.{CelestialBox};
+ghost use Rattle.trig.specs.Contract.{SinesOf};
 ghost use Rattle.sun.specs.Contract.{WithinOne};
 ghost use Rattle.eclipse.specs.Dot.{dotOf};
 ghost use Rattle.eclipse.specs.Shade.{shadeCode, sideSquared, shadeOf, anyBeyond, shadeAnswer};
@@ -11,6 +12,7 @@ use integer::ONE;
 use position::Position;
 use refusal::Refusal;
 use sun::Direction;
+use trig::Sines;
 
 // The square of the Earth's radius, 6,378,000 m.
 const EARTH_RADIUS_SQUARED: i64 = 40_678_884_000_000;
@@ -47,7 +49,7 @@ fn dot(x: i64, y: i64, z: i64, direction: Direction) -> i64
 
 // The square of the distance from the line through the Earth and the Sun.
 fn side_squared(position: Position, p: i64) -> i64
-    requires { ⌜ Box 580_000_000 580_000_000 290_000_000 position × Within 1_450_000_000 p ⌝ }
+    requires { ⌜ CelestialBox position × Within 1_450_000_000 p ⌝ }
     ensures { λ r. ⌜ r ≡ sideSquared position p ⌝ }
 {
     let x = position.x;
@@ -59,7 +61,7 @@ fn side_squared(position: Position, p: i64) -> i64
 // The shade at a celestial position. It makes no test of refusal 14: it is for labelling, whose positions and Suns
 // have these bounds by the promises of `celestial` and `sun_at`, and for `shade_test`.
 pub fn shade_at(position: Position, sun: Direction) -> Shade
-    requires { ⌜ Box 580_000_000 580_000_000 290_000_000 position × WithinOne sun ⌝ }
+    requires { ⌜ CelestialBox position × WithinOne sun ⌝ }
     ensures { λ r. ⌜ r ≡ shadeOf position sun ⌝ }
 {
     let p = dot(position.x, position.y, position.z, sun);
@@ -101,14 +103,15 @@ pub fn shade_test(position: Position, sun: Direction) -> ShadeAnswer
 }
 
 // The orbit normal.
-fn normal(inclination: u32, node: u32) -> Direction
-    ensures { λ r. ⌜ NormalAt inclination node r ⌝ }
+fn normal(inclination: Sines, node: Sines) -> Direction
+    requires { ⌜ SinesOf inclination × SinesOf node ⌝ }
+    ensures { λ r. ⌜ NormalAt (inclination .angle) (node .angle) r ⌝ }
 {
-    let s = trig::sine(inclination);
+    let s = inclination.sine;
     Direction {
-        x: integer::scaled(s, trig::sine(node)),
-        y: 0 - integer::scaled(s, trig::cosine(node)),
-        z: trig::cosine(inclination),
+        x: integer::scaled(s, node.sine),
+        y: 0 - integer::scaled(s, node.cosine),
+        z: inclination.cosine,
     }
 }
 
@@ -126,10 +129,10 @@ fn held(sine: i64) -> i32
 }
 
 // The sine of the Sun's elevation above the plane of the orbit, whose node is the drifted one. The Sun is asked to be
-// within ±2^30, as `sun_at` promises: it is for labelling.
-pub fn elevation(inclination: u32, node: u32, sun: Direction) -> i32
-    requires { ⌜ WithinOne sun ⌝ }
-    ensures { λ r. ⌜ ElevationAt inclination node sun r ⌝ }
+// within ±2^30, as `sun_at` promises: it is for labelling, which has the sines of both angles.
+pub fn elevation(inclination: Sines, node: Sines, sun: Direction) -> i32
+    requires { ⌜ SinesOf inclination × SinesOf node × WithinOne sun ⌝ }
+    ensures { λ r. ⌜ ElevationAt (inclination .angle) (node .angle) sun r ⌝ }
 {
     let n = normal(inclination, node);
     held(dot(n.x, n.y, n.z, sun))

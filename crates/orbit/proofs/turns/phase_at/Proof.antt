@@ -1,4 +1,4 @@
--- `orbit::turns::mean_at` meets its contract. Assumes nothing.
+-- `orbit::turns::phase_at` meets its contract. Assumes nothing.
 use borrow.Author.Needs.{needs}
 use mathlib.Core.Path.{_≡_, _∙_, sym, ap}
 use Prim.Native.Nat.{ℕ, _+_, _-_, _≤_, _<_}
@@ -13,8 +13,8 @@ use Rattle.integer.proofs.Bounds.{within-pos, within-add, within-more, sfits-wi
 use Rattle.orbit.specs.Turns.{elapsedOf, wholeTurns, partOf, partTurn, anomalySum, revolution}
 use Rattle.orbit.proofs.Accepted.{accepted-at}
 use Rattle.orbit.proofs.MeanAnomaly.{anomaly-same, passages-same, anomaly-carried, passages-carried}
-use Rattle.orbit.proofs.turns.mean_at.Statement.{statement}
-use Rattle.orbit.proofs.turns.mean_at.Tie as tie
+use Rattle.orbit.proofs.turns.phase_at.Statement.{statement}
+use Rattle.orbit.proofs.turns.phase_at.Tie as tie
 
 elapsed-requires : tie.Need-elapsed-requires
 elapsed-requires c κs = search needs
@@ -112,8 +112,8 @@ returns-2 c =
           ∙ sym (passages-carried (a .elements) (a .time) h));
     }
 
-pub mean-at-spec : {M : Type 1} → statement M
-mean-at-spec =
+pub phase-at-spec : {M : Type 1} → statement M
+phase-at-spec =
     tie.close
     (tie.spec
     elapsed-requires
