@@ -13,14 +13,11 @@ rate-fits s = search needs
 
 drift-at-requires : tie.Need-drift-at-requires
 drift-at-requires c κs =
-    let s = c .before in
-    rw (toZ-ofZ (s .fits .time), toZ-ofZ (rate-fits s)) (s .pre, accepted-at _ _ (s .pre) .elements .node-rate)
+    let a = accepted-at _ _ (c .before .pre) .elements in search needs
 
 returns : tie.Need-returns
 unfolding nodeAt
-returns c =
-    let s = c .before .before in
-    rw (toZ-ofZ (s .fits .time), toZ-ofZ (rate-fits s)) at (c .drift-at .ensures)
+returns c = simp (toZ-ofZ (c .before .before .fits .time), toZ-ofZ (rate-fits (c .before .before))) at (c .drift-at .ensures)
 
 pub node-at-spec : {M : Type 1} → statement M
 node-at-spec = tie.close (tie.spec drift-at-requires returns)

@@ -28,8 +28,7 @@ elements-accepted s = accepted-at (s .args .elements) (s .args .time) (s .pre .p
 
 drift-at-requires : tie.Need-drift-at-requires
 drift-at-requires c κs =
-    let s = c .before in
-    rw (toZ-ofZ (s .fits .time), toZ-ofZ (rate-fits s)) (s .pre .passed, elements-accepted s .perigee-rate)
+    let a = elements-accepted (c .before) in search needs
 
 perigee-at : (c : tie.After-drift-at) → let a = c .before .before .args in SinesAt (perigeeAt (a .elements) (a .time)) (c .drift-at .result)
 unfolding perigeeAt
@@ -44,14 +43,8 @@ in-plane-requires : tie.Need-in-plane-requires
 in-plane-requires c κs =
     let s = c .before .before .before .before .before in
     let a = elements-accepted s in
-    let E = c .before .before .of .ensures .sines-of in
-    record {
-      axis-le = a .axis-le;
-      eccentricity-le = a .eccentricity-le;
-      minor-le = rw (s .pre .plane-for .minor-is) (minor-le (s .args .elements .eccentricity));
-      cosine-within = rw (read-within (E .cosine-within) tt) (E .cosine-within);
-      sine-within = rw (read-within (E .sine-within) tt) (E .sine-within);
-    }
+    let m = minor-le (s .args .elements .eccentricity) in
+    search needs
 
 celestial-requires : tie.Need-celestial-requires
 celestial-requires c κs = search needs
@@ -59,8 +52,7 @@ celestial-requires c κs = search needs
 radius-requires : tie.Need-radius-requires
 radius-requires c κs =
     let a = elements-accepted (c .before .before .before .before .before .before .before) in
-    let E = c .before .before .before .before .of .ensures .sines-of in
-    (a .axis-le, (a .eccentricity-le, rw (read-within (E .cosine-within) tt) (E .cosine-within)))
+    search needs
 
 -- the cosine and the sine of E, as the machine holds them
 cosine-is : {a : ℕ} {r : Sines} → SinesAt a r → toZ w64 (ofZ w64 (r .cosine)) ≡ C a

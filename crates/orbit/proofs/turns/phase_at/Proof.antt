@@ -26,8 +26,8 @@ turns-requires c κs = (accepted-at (c .before .args .elements) (c .before .args
 quotient-fits : (c : tie.After-turns) → SFits w64 (c .turns .result .quotient)
 quotient-fits c = search needs
 
-next-within : (c : tie.After-turns) → Within 10000 (c .turns .result .quotient +ℤ pos 1)
-next-within c = within-add (c .turns .ensures .quotient-small) (within-pos {a = 1} (lit≤ tt))
+next-within : (c : tie.After-turns) {n : ℕ} → n ≤ 1 → Within 10000 (c .turns .result .quotient +ℤ pos n)
+next-within c h = within-add (c .turns .ensures .quotient-small) (within-pos h)
 
 elapsed-is : (c : tie.After-elapsed) → toZ w64 (ofZ w64 (c .elapsed .result)) ≡ elapsedOf (c .before .args .elements) (c .before .args .time)
 elapsed-is c =
@@ -88,13 +88,13 @@ cast-t12 : tie.Need-cast-t12
 cast-t12 c = search needs
 
 add-revolution : tie.Need-add-revolution
-add-revolution c = rw (toZ-ofZ (quotient-fits (c .before .before .before .before))) (sfits-within (next-within (c .before .before .before .before)) tt)
+add-revolution c = rw (toZ-ofZ (quotient-fits (c .before .before .before .before))) (sfits-within (next-within (c .before .before .before .before) (lit≤ tt)) tt)
 
 revolution-requires-2 : tie.Need-revolution-requires-2
 revolution-requires-2 c κs =
     let s = c .before .before .before .before .before .before in
     let u = c .before .before .before .before in
-    (accepted-at (s .args .elements) (s .args .time) (s .pre) .elements .revolution-le, rw (toZ-ofZ (add-revolution c), toZ-ofZ (quotient-fits u)) (next-within u))
+    (accepted-at (s .args .elements) (s .args .time) (s .pre) .elements .revolution-le, rw (toZ-ofZ (add-revolution c), toZ-ofZ (quotient-fits u)) (next-within u (lit≤ tt)))
 
 returns-2 : tie.Need-returns-2
 unfolding revolution
