@@ -9,10 +9,10 @@ use lib.Signed.{quotZ}
 use Rattle.integer.specs.Bound.{Within}
 use Rattle.integer.proofs.Bounds.{within-add, within-sub, within-mul, within-quot, within-more}
 use Rattle.integer.proofs.Tests.{or-false}
+use Rattle.position.specs.Box.{CelestialBox}
 use Rattle.position.specs.declared.Position.{Position}
 use Rattle.sun.specs.Contract.{WithinOne}
 use Rattle.sun.specs.declared.Direction.{Direction}
-use Rattle.eclipse.specs.Contract.{CelestialBox}
 use Rattle.eclipse.specs.Dot.{dotOf}
 use Rattle.eclipse.specs.Shade.{projection, anyBeyond}
 

@@ -3,15 +3,9 @@ use mathlib.Core.Path.{_≡_}
 use Prim.Native.Nat.{ℕ, _^_}
 use lib.IntN.{ℤ}
 use Rattle.integer.specs.Bound.{Within}
-use Rattle.position.specs.Box.{Box}
-use Rattle.position.specs.declared.Position.{Position}
 use Rattle.sun.specs.Contract.{WithinOne}
 use Rattle.sun.specs.declared.Direction.{Direction}
 use Rattle.eclipse.specs.Elevation.{normalOf, heldOf, elevationOf}
-
--- the bounds of a celestial position
-abbrev pub CelestialBox : Position → Type 0
-CelestialBox p = Box 580_000_000 580_000_000 290_000_000 p
 
 pub record NormalAt (i node : ℕ) (r : Direction) : Type 0 where
   pub is : r ≡ normalOf i node

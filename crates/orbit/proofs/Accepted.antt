@@ -1,16 +1,14 @@
 -- What elements and a time that pass the checks satisfy. Assumes nothing.
 use mathlib.Core.Path.{_≡_, refl, sym}
 use mathlib.Core.Bool.{Bool, true, false, not, _||_}
-use Prim.Native.Nat.{ℕ, _*_, _-_, _^_, _≤_, _<_}
+use Prim.Native.Nat.{ℕ, _*_, _-_, _≤_, _<_}
 use native.Mathlib.Nat.{mul-zero}
 use native.Mathlib.Omega.{arith}
 use borrow.Author.Tests.{ltb-false, lt-ltb}
 use lib.Dec.{ltb}
 use lib.IntN.{ℤ, natAbs, _-ℤ_}
-use mir.Syntax.{w64}
-use mir.Val.{SFits}
 use Rattle.integer.specs.Bound.{Within}
-use Rattle.integer.proofs.Bounds.{within-sub, sfits-within}
+use Rattle.integer.proofs.Bounds.{within-sub}
 use Rattle.integer.proofs.Tests.{or-false}
 use Rattle.refusal.specs.declared.Refusal.{Refusal}
 use Rattle.time.specs.Range.{inRange}
@@ -18,7 +16,7 @@ use Rattle.time.proofs.Size.{in-range-size}
 use Rattle.orbit.specs.declared.elements.Elements.{Elements}
 use Rattle.orbit.specs.declared.elements.Verdict.{Verdict}
 use Rattle.orbit.specs.declared.elements.Verdict.the-variants.{Passed, Refused}
-use Rattle.orbit.specs.Elements.{refuseIf, outside, perigeeBelow, rateBeyond, checked}
+use Rattle.orbit.specs.Elements.{refuseIf, perigeeBelow, checked}
 use Rattle.orbit.specs.Time.{timeRefused, checkedAt}
 
 pub perigee-beyond : (a e : ℕ) → 10000000 < e → true ≡ perigeeBelow a e
@@ -45,12 +43,10 @@ stood Passed false r e = record { before = refl; holds = refl }
 pub record Accepted (el : Elements) : Type 0 where
   pub eccentricity-le : el .eccentricity ≤ 9_000_000
   pub axis-le : el .«semi_major_axis» ≤ 100_000_000
-  pub perigee : perigeeBelow (el .«semi_major_axis») (el .eccentricity) ≡ false
   pub motion-le : el .«mean_motion» ≤ 1_700_000_000
   pub node-rate : Within 200_000 (el .«node_rate»)
   pub perigee-rate : Within 200_000 (el .«perigee_rate»)
   pub revolution-le : el .«epoch_revolution» ≤ 99_999
-  pub epoch-in-range : not (inRange (el .epoch)) ≡ false
 
 pub accepted : (el : Elements) → checked el ≡ Passed → Accepted el
 unfolding checked
@@ -69,12 +65,10 @@ accepted el e =
     record {
       eccentricity-le = ltb-false _ _ (s1 .holds);
       axis-le = ltb-false _ _ (or-false (ltb a 6_600_000) (ltb 100_000_000 a) (s2 .holds) .1);
-      perigee = s3 .holds;
       motion-le = ltb-false _ _ (or-false (ltb n 20_000_000) (ltb 1_700_000_000 n) (s5 .holds) .1);
       node-rate = record { within = ltb-false _ _ (s6 .holds) };
       perigee-rate = record { within = ltb-false _ _ (s6' .holds) };
       revolution-le = ltb-false _ _ (s7 .holds);
-      epoch-in-range = s8 .holds;
     }
 
 not-false : (b : Bool) → not b ≡ false → b ≡ true

@@ -1,6 +1,6 @@
 -- Distances in the plane of the orbit: their bounds, and the radius between perigee and apogee. Assumes nothing.
-use mathlib.Core.Path.{_≡_, refl, sym, ap, _∙_}
-use Prim.Native.Nat.{ℕ, suc, _+_, _*_, _-_, _/_, _^_, _≤_, _<_}
+use mathlib.Core.Path.{_≡_}
+use Prim.Native.Nat.{ℕ, suc, _+_, _*_, _-_, _/_, _^_, _≤_}
 use native.Mathlib.Nat.{le-refl, mul-le-mul-left}
 use native.Mathlib.Omega.{arith}
 use lib.Dec.{lit≤}
@@ -12,7 +12,9 @@ use Rattle.integer.proofs.Bounds.{within-pos, within-sub, within-mul, within-qu
 use Rattle.integer.proofs.Parts.{signed, parts-sub}
 use Rattle.integer.proofs.Ring.{ring}
 use Rattle.integer.proofs.Root.{root-is, square-below}
+use Rattle.position.specs.Box.{PlaneBox}
 use Rattle.orbit.specs.Ellipse.{e30, minorAxis, inPlaneX, inPlaneY, radius, Between}
+use Rattle.orbit.specs.Placement.{planeOf}
 
 pub e30-le : (e : ℕ) → e ≤ 9_000_000 → e30 e ≤ 966_367_641
 unfolding e30
@@ -37,7 +39,7 @@ module _ (a e : ℕ) (cosine : ℤ) (ha : a ≤ 100_000_000) (he : e ≤ 9_000_0
   pub x-product-within : Within (100_000_000 * (2 ^ 30 + 966_367_641)) (pos a *ℤ (cosine -ℤ pos (e30 e)))
   x-product-within = within-mul (within-pos ha) offset-within
 
-  pub x-within : Within 190_000_000 (inPlaneX a e cosine)
+  x-within : Within 190_000_000 (inPlaneX a e cosine)
   unfolding inPlaneX
   x-within = within-more (within-quot (2 ^ 30) x-product-within) (lit≤ tt)
 
@@ -52,9 +54,15 @@ module _ (a b : ℕ) (sine : ℤ) (ha : a ≤ 100_000_000) (hb : b ≤ 2 ^ 30) (
   pub height-within : Within (2 ^ 30) (quotZ (pos b *ℤ sine) (pos (2 ^ 30)))
   height-within = within-more (part-within b sine hs) hb
 
-  pub y-within : Within 100_000_000 (inPlaneY a b sine)
+  y-within : Within 100_000_000 (inPlaneY a b sine)
   unfolding inPlaneY
   y-within = within-more (part-within a _ height-within) ha
+
+pub plane-box : (a e b : ℕ) (cosine sine : ℤ) → a ≤ 100_000_000 → e ≤ 9_000_000 → b ≤ 2 ^ 30 → Within (2 ^ 30) cosine → Within (2 ^ 30) sine
+    → PlaneBox (planeOf a e b cosine sine)
+unfolding planeOf
+plane-box a e b cosine sine ha he hb hc hs =
+    record { x-within = x-within a e cosine ha he hc; y-within = y-within a b sine ha hb hs; z-within = within-pos (lit≤ tt) }
 
 -- ---- the radius
 -- b less a number within k is a natural number from b - k to b + k

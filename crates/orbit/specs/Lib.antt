@@ -3,3 +3,4 @@ pub mod Time
 pub mod Turns
 pub mod Ellipse
 pub mod Placement
+pub mod Contract

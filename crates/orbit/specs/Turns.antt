@@ -1,15 +1,10 @@
 -- Turns since the epoch, and drift: document 01, "From elements to position". Assumes nothing.
-use mathlib.Core.Path.{_≡_}
 use mathlib.Core.Bool.{true, false}
-use Prim.Native.Nat.{ℕ, _+_, _*_, _-_, _/_, _^_, _<_}
+use Prim.Native.Nat.{ℕ, _+_, _*_, _-_, _/_, _^_}
 use lib.Dec.{leb}
 use lib.IntN.{ℤ, pos, _+ℤ_, _-ℤ_, _*ℤ_}
-use Rattle.integer.specs.Bound.{Within}
-use Rattle.integer.specs.Contract.{FloorDivided}
 use Rattle.integer.specs.Division.{floorZ, modZ}
-use Rattle.integer.specs.declared.FloorQuotient.{FloorQuotient}
 use Rattle.orbit.specs.declared.elements.Elements.{Elements}
-use Rattle.orbit.specs.declared.turns.MeanMotion.{MeanMotion}
 
 -- Δ: the time less the epoch
 abbrev pub elapsedOf : Elements → ℤ → ℤ
@@ -46,18 +41,3 @@ revolution el t = pos (el .«epoch_revolution») +ℤ perigeePassages el t
 -- the node and the argument of perigee: rate·Δ·2^18 / 18,984,375 down is added, and the sum wraps
 unfoldable pub drifted : ℕ → ℤ → ℤ → ℕ
 drifted angle rate Δ = modZ (pos angle +ℤ floorZ (rate *ℤ Δ *ℤ pos (2 ^ 18)) 18_984_375) (2 ^ 32)
-
--- ---- what the functions owe
-pub record Elapsed (el : Elements) (t r : ℤ) : Type 0 where
-  pub is : r ≡ elapsedOf el t
-  pub small : Within 31_622_400 r
-
--- w and m; within a year's time w is small
-pub record Turned (n : ℕ) (Δ : ℤ) (r : FloorQuotient) : Type 0 where
-  pub divided : FloorDivided (pos n *ℤ Δ) 8_640_000_000_000 r
-  pub quotient-small : Within 9_999 (r .quotient)
-  pub remainder-below : r .remainder < 8_640_000_000_000
-
-pub record Mean (el : Elements) (t : ℤ) (r : MeanMotion) : Type 0 where
-  pub anomaly-is : r .«mean_anomaly» ≡ meanAnomaly el t
-  pub revolution-is : r .revolution ≡ revolution el t

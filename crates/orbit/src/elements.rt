@@ -29,7 +29,7 @@ pub enum Verdict {
 
 impl Verdict {
     // The first refusal stands.
-    pub fn refuse_if(self, fails: bool, refusal: Refusal) -> Verdict
+    fn refuse_if(self, fails: bool, refusal: Refusal) -> Verdict
         ensures { λ r. ⌜ r ≡ refuseIf self fails refusal ⌝ }
     {
         match self {

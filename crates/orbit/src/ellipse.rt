@@ -4,7 +4,7 @@ ghost use mathlib.Core.Path.{_≡_};
 ghost use Prim.Native.Nat.{_≤_, _^_};
 ghost use lib.IntN.{pos};
 ghost use Rattle.integer.specs.Bound.{Within};
-ghost use Rattle.orbit.specs.Ellipse.{e30, minorAxis, inPlaneX, inPlaneY, radius, Between};
+ghost use Rattle.orbit.specs.Ellipse.{e30, minorAxis, inPlaneX, inPlaneY, radius};
 
 // The eccentricity in units of 2^-30.
 fn eccentricity30(e: u32) -> u64
@@ -25,21 +25,21 @@ pub fn minor_axis(e: u32) -> u32
 
 pub fn plane_x(a: u32, e: u32, cosine: i64) -> i64
     requires { ⌜ (a ≤ 100_000_000) × ((e ≤ 9_000_000) × Within (2 ^ 30) cosine) ⌝ }
-    ensures { λ r. ⌜ (r ≡ inPlaneX a e cosine) × Within 190_000_000 r ⌝ }
+    ensures { λ r. ⌜ r ≡ inPlaneX a e cosine ⌝ }
 {
     integer::scaled(a as i64, cosine - eccentricity30(e) as i64)
 }
 
 pub fn plane_y(a: u32, minor_axis: u32, sine: i64) -> i64
     requires { ⌜ (a ≤ 100_000_000) × ((«minor_axis» ≤ 2 ^ 30) × Within (2 ^ 30) sine) ⌝ }
-    ensures { λ r. ⌜ (r ≡ inPlaneY a «minor_axis» sine) × Within 100_000_000 r ⌝ }
+    ensures { λ r. ⌜ r ≡ inPlaneY a «minor_axis» sine ⌝ }
 {
     integer::scaled(a as i64, integer::scaled(minor_axis as i64, sine))
 }
 
 pub fn radius(a: u32, e: u32, cosine: i64) -> i64
     requires { ⌜ (a ≤ 100_000_000) × ((e ≤ 9_000_000) × Within (2 ^ 30) cosine) ⌝ }
-    ensures { λ r. ⌜ (r ≡ radius a e cosine) × Between a e r ⌝ }
+    ensures { λ r. ⌜ r ≡ radius a e cosine ⌝ }
 {
     integer::scaled(
         a as i64,

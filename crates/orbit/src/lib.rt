@@ -1,7 +1,7 @@
 // From orbital elements to position: document 01, "From elements to position".
 pub mod elements;
-pub mod ellipse;
-pub mod turns;
+mod ellipse;
+mod turns;
 
 use elements::Elements;
 use elements::Verdict;
@@ -9,12 +9,15 @@ use kepler::Anomaly;
 use kepler::Solution;
 use position::Position;
 use refusal::Refusal;
-use turns::MeanMotion;
+use trig::Sines;
+use turns::Phase;
 ghost use mathlib.Core.Path.{_≡_};
+ghost use Prim.Native.Nat.{_≤_};
+ghost use Rattle.trig.specs.Contract.{SinesAt};
 ghost use Rattle.orbit.specs.declared.elements.Verdict.the-variants.{Passed};
-ghost use Rattle.orbit.specs.Ellipse.{minorAxis};
-ghost use Rattle.orbit.specs.Placement.{Shape, InPlane, Parts, StateWith, StateAt, PlacedAt};
+ghost use Rattle.orbit.specs.Placement.{nodeAt, stateOf};
 ghost use Rattle.orbit.specs.Time.{checkedAt};
+ghost use Rattle.orbit.specs.Contract.{PlaneFor, Shape, InPlane, Parts, StateAt, PlacedAt};
 
 // Where a satellite is at a time: the revolution, the mean anomaly, the eccentric anomaly with its
 // halvings, the celestial position and the radius in metres, and the node as drifted.
@@ -32,6 +35,34 @@ pub enum Placement {
     Refused(Refusal),
 }
 
+// What all times share of an orbit: the ratio of its axes, in units of 2^-30, and its inclination.
+pub struct Plane {
+    pub minor_axis: u32,
+    pub inclination: Sines,
+}
+
+impl Plane {
+    // It is for elements that passed the checks: beyond an eccentricity of 1 there is no minor axis.
+    pub fn of(elements: Elements) -> Plane
+        requires { ⌜ elements .eccentricity ≤ 9_000_000 ⌝ }
+        ensures { λ r. ⌜ PlaneFor elements r ⌝ }
+    {
+        Plane {
+            minor_axis: ellipse::minor_axis(elements.eccentricity),
+            inclination: Sines::of(elements.inclination),
+        }
+    }
+}
+
+// The node as drifted at a time that passed the checks. Labelling needs its sines twice: for the
+// position and for the Sun's elevation.
+pub fn node_at(elements: Elements, time: i64) -> Sines
+    requires { ⌜ checkedAt elements time ≡ Passed ⌝ }
+    ensures { λ r. ⌜ SinesAt (nodeAt elements time) r ⌝ }
+{
+    turns::drift_at(elements, time, elements.node, elements.node_rate)
+}
+
 fn in_plane(a: u32, e: u32, minor_axis: u32, cosine: i64, sine: i64) -> Position
     requires { ⌜ Shape a e «minor_axis» cosine sine ⌝ }
     ensures { λ r. ⌜ InPlane a e «minor_axis» cosine sine r ⌝ }
@@ -46,40 +77,44 @@ fn in_plane(a: u32, e: u32, minor_axis: u32, cosine: i64, sine: i64) -> Position
 fn place(
     elements: Elements,
     time: i64,
-    minor_axis: u32,
-    mean: MeanMotion,
+    plane: Plane,
+    node: Sines,
+    phase: Phase,
     anomaly: Anomaly,
 ) -> State
-    requires { ⌜ Parts elements time «minor_axis» mean anomaly ⌝ }
-    ensures { λ r. ⌜ StateWith elements time anomaly r ⌝ }
+    requires { ⌜ Parts elements time plane node phase anomaly ⌝ }
+    ensures { λ r. ⌜ r ≡ stateOf elements time anomaly ⌝ }
 {
     let a = elements.semi_major_axis;
     let e = elements.eccentricity;
-    let elapsed = turns::elapsed(elements, time);
-    let perigee = turns::drift(elements.argument_of_perigee, elements.perigee_rate, elapsed);
-    let node = turns::drift(elements.node, elements.node_rate, elapsed);
-    let cosine = trig::cosine(anomaly.angle);
-    let sine = trig::sine(anomaly.angle);
-    let plane = in_plane(a, e, minor_axis, cosine, sine);
+    let perigee = turns::drift_at(
+        elements,
+        time,
+        elements.argument_of_perigee,
+        elements.perigee_rate,
+    );
+    let sines = Sines::of(anomaly.angle);
+    let cosine = sines.cosine;
+    let in_plane = in_plane(a, e, plane.minor_axis, cosine, sines.sine);
     State {
-        revolution: mean.revolution,
-        mean_anomaly: mean.mean_anomaly,
+        revolution: phase.revolution,
+        mean_anomaly: phase.mean_anomaly,
         anomaly,
-        position: plane.celestial(perigee, elements.inclination, node),
+        position: in_plane.celestial(perigee, plane.inclination, node),
         radius: ellipse::radius(a, e, cosine),
-        node,
+        node: node.angle,
     }
 }
 
-// The state at a time that passed the checks, as labelling asks for it: the minor axis is computed once
-// for all times, and refusal 9 is not tested, since it is never given.
-pub fn state_at(elements: Elements, minor_axis: u32, time: i64) -> State
-    requires { ⌜ (checkedAt elements time ≡ Passed) × («minor_axis» ≡ minorAxis (elements .eccentricity)) ⌝ }
+// The state at a time that passed the checks, as labelling asks for it: the plane is computed once for
+// all times and the node once for the time, and refusal 9 is not tested, since it is never given.
+pub fn state_at(elements: Elements, plane: Plane, node: Sines, time: i64) -> State
+    requires { ⌜ (checkedAt elements time ≡ Passed) × PlaneFor elements plane × SinesAt (nodeAt elements time) node ⌝ }
     ensures { λ r. ⌜ StateAt elements time r ⌝ }
 {
-    let mean = turns::mean_at(elements, time);
-    let anomaly = kepler::eccentric_anomaly(elements.eccentricity, mean.mean_anomaly);
-    place(elements, time, minor_axis, mean, anomaly)
+    let phase = turns::phase_at(elements, time);
+    let anomaly = kepler::eccentric_anomaly(elements.eccentricity, phase.mean_anomaly);
+    place(elements, time, plane, node, phase, anomaly)
 }
 
 // The position of a satellite with any elements at any time, or the refusal.
@@ -90,13 +125,14 @@ pub fn position(elements: Elements, time: i64) -> Placement
     match verdict {
         Verdict::Refused(refusal) => Placement::Refused(refusal),
         Verdict::Passed => {
-            let mean = turns::mean_at(elements, time);
-            let solution = kepler::solve(elements.eccentricity, mean.mean_anomaly);
+            let phase = turns::phase_at(elements, time);
+            let solution = kepler::solve(elements.eccentricity, phase.mean_anomaly);
             match solution {
                 Solution::Refused(refusal) => Placement::Refused(refusal),
                 Solution::Solved(anomaly) => {
-                    let minor_axis = ellipse::minor_axis(elements.eccentricity);
-                    let state = place(elements, time, minor_axis, mean, anomaly);
+                    let plane = Plane::of(elements);
+                    let node = node_at(elements, time);
+                    let state = place(elements, time, plane, node, phase, anomaly);
                     Placement::Placed(state)
                 }
             }

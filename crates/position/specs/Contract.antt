@@ -2,15 +2,15 @@
 use mathlib.Core.Path.{_≡_}
 use Prim.Native.Nat.{ℕ}
 use lib.IntN.{ℤ}
-use Rattle.position.specs.Box.{Box}
+use Rattle.position.specs.Box.{CelestialBox}
 use Rattle.position.specs.Turn.{turnedFirst, turnedSecond, celestialOf}
 use Rattle.position.specs.declared.Pair.{Pair}
 use Rattle.position.specs.declared.Position.{Position}
 
-pub record Turned (x y : ℤ) (angle : ℕ) (r : Pair) : Type 0 where
+pub record TurnedPair (x y : ℤ) (angle : ℕ) (r : Pair) : Type 0 where
   pub first-is : r .first ≡ turnedFirst x y angle
   pub second-is : r .second ≡ turnedSecond x y angle
 
 pub record Celestial (p : Position) (argument-of-perigee inclination node : ℕ) (r : Position) : Type 0 where
   pub is : r ≡ celestialOf p argument-of-perigee inclination node
-  pub box : Box 580_000_000 580_000_000 290_000_000 r
+  pub box : CelestialBox r

@@ -1,12 +1,13 @@
 // Positions in metres, and their turns: document 01, "From elements to position".
 ghost use mathlib.Core.Path.{_≡_};
 ghost use Prim.Native.Nat.{_^_};
-ghost use lib.IntN.{_*ℤ_};
 ghost use Rattle.integer.specs.Bound.{Within};
-ghost use Rattle.position.specs.Box.{Box};
-ghost use Rattle.position.specs.Contract.{Turned, Celestial};
-ghost use Rattle.position.specs.Turn.{scaledDifference, scaledSum, turnedXY, turnedYZ, earthFixedOf};
+ghost use Rattle.trig.specs.Contract.{SinesOf};
+ghost use Rattle.position.specs.Box.{Turnable, PlaneBox};
+ghost use Rattle.position.specs.Contract.{TurnedPair, Celestial};
+ghost use Rattle.position.specs.Turn.{turnedXY, turnedYZ, earthFixedOf};
 use integer::ONE;
+use trig::Sines;
 
 pub struct Position {
     pub x: i64,
@@ -20,40 +21,23 @@ struct Pair {
     second: i64,
 }
 
-fn scaled_difference(a: i64, b: i64, c: i64, d: i64) -> i64
-    requires { ⌜ Within (2 ^ 61) (a *ℤ b) × Within (2 ^ 61) (c *ℤ d) ⌝ }
-    ensures { λ r. ⌜ r ≡ scaledDifference a b c d ⌝ }
+fn turned(x: i64, y: i64, angle: Sines) -> Pair
+    requires { ⌜ Within (2 ^ 31) x × Within (2 ^ 31) y × SinesOf angle ⌝ }
+    ensures { λ r. ⌜ TurnedPair x y (angle .angle) r ⌝ }
 {
-    (a * b - c * d) / ONE
+    let c = angle.cosine;
+    let s = angle.sine;
+    let first = (x * c - y * s) / ONE;
+    let second = (x * s + y * c) / ONE;
+    Pair { first, second }
 }
 
-fn scaled_sum(a: i64, b: i64, c: i64, d: i64) -> i64
-    requires { ⌜ Within (2 ^ 61) (a *ℤ b) × Within (2 ^ 61) (c *ℤ d) ⌝ }
-    ensures { λ r. ⌜ r ≡ scaledSum a b c d ⌝ }
-{
-    (a * b + c * d) / ONE
-}
-
-fn turned(x: i64, y: i64, angle: u32) -> Pair
-    requires { ⌜ Within (2 ^ 31) x × Within (2 ^ 31) y ⌝ }
-    ensures { λ r. ⌜ Turned x y angle r ⌝ }
-{
-    let c = trig::cosine(angle);
-    let s = trig::sine(angle);
-    Pair {
-        first: scaled_difference(x, c, y, s),
-        second: scaled_sum(x, s, y, c),
-    }
-}
-
-// The turns ask for components within 2^31, so that a product with a sine fits. They are shared between our crates,
-// whose positions are within it: `celestial` promises a bound below it, and so whoever has a celestial position can call
-// `earth_fixed`.
+// An angle comes with its sine and cosine, which several turns share.
 impl Position {
     // The turn of (x, y) by an angle.
-    pub fn turn_xy(self, angle: u32) -> Position
-        requires { ⌜ Box (2 ^ 31) (2 ^ 31) (2 ^ 31) self ⌝ }
-        ensures { λ r. ⌜ r ≡ turnedXY self angle ⌝ }
+    fn turn_xy(self, angle: Sines) -> Position
+        requires { ⌜ Turnable self × SinesOf angle ⌝ }
+        ensures { λ r. ⌜ r ≡ turnedXY self (angle .angle) ⌝ }
     {
         let t = turned(self.x, self.y, angle);
         Position {
@@ -64,9 +48,9 @@ impl Position {
     }
 
     // The turn of (y, z) by an angle.
-    pub fn turn_yz(self, angle: u32) -> Position
-        requires { ⌜ Box (2 ^ 31) (2 ^ 31) (2 ^ 31) self ⌝ }
-        ensures { λ r. ⌜ r ≡ turnedYZ self angle ⌝ }
+    fn turn_yz(self, angle: Sines) -> Position
+        requires { ⌜ Turnable self × SinesOf angle ⌝ }
+        ensures { λ r. ⌜ r ≡ turnedYZ self (angle .angle) ⌝ }
     {
         let t = turned(self.y, self.z, angle);
         Position {
@@ -76,27 +60,28 @@ impl Position {
         }
     }
 
-    // The celestial position of one in the plane of the orbit. The bounds are those of the orbits that
-    // document 01 accepts: a to 100,000,000 m and e to 0.9.
-    pub fn celestial(self, argument_of_perigee: u32, inclination: u32, node: u32) -> Position
-        requires { ⌜ Box 190_000_000 100_000_000 0 self ⌝ }
-        ensures { λ r. ⌜ Celestial self «argument_of_perigee» inclination node r ⌝ }
+    // The celestial position of one in the plane of the orbit. It is for `orbit`, whose accepted elements
+    // keep a position in the plane within these bounds.
+    pub fn celestial(self, argument_of_perigee: Sines, inclination: Sines, node: Sines) -> Position
+        requires { ⌜ PlaneBox self × SinesOf «argument_of_perigee» × SinesOf inclination × SinesOf node ⌝ }
+        ensures { λ r. ⌜ Celestial self («argument_of_perigee» .angle) (inclination .angle) (node .angle) r ⌝ }
     {
         self.turn_xy(argument_of_perigee)
             .turn_yz(inclination)
             .turn_xy(node)
     }
 
-    // The Earth-fixed position of a celestial one, with the angle GHAA.
+    // The Earth-fixed position of a celestial one, with the angle GHAA: (y, x) is turned, so that the turn
+    // goes the other way. The components are asked to be within 2^31, so that a product with a sine fits;
+    // those that `celestial` gives are.
     pub fn earth_fixed(self, ghaa: u32) -> Position
-        requires { ⌜ Box (2 ^ 31) (2 ^ 31) (2 ^ 31) self ⌝ }
+        requires { ⌜ Turnable self ⌝ }
         ensures { λ r. ⌜ r ≡ earthFixedOf self ghaa ⌝ }
     {
-        let c = trig::cosine(ghaa);
-        let s = trig::sine(ghaa);
+        let back = turned(self.y, self.x, Sines::of(ghaa));
         Position {
-            x: scaled_sum(c, self.x, s, self.y),
-            y: scaled_difference(c, self.y, s, self.x),
+            x: back.second,
+            y: back.first,
             z: self.z,
         }
     }

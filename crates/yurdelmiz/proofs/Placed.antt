@@ -7,7 +7,7 @@ use native.Mathlib.Omega.{arith}
 use lib.Dec.{leb→le, lit≤}
 use lib.IntN.{ℤ, pos, negsuc, natAbs}
 use Rattle.integer.proofs.Bounds.{within-more}
-use Rattle.position.specs.Box.{Box}
+use Rattle.position.specs.Box.{Turnable, CelestialBox}
 use Rattle.position.specs.declared.Position.{Position}
 use Rattle.time.specs.Range.{inRange}
 use Rattle.orbit.specs.declared.State.{State}
@@ -48,6 +48,6 @@ module _ (el : Elements) (t : ℤ) (s : State) (given : placement el t ≡ Place
       below _ _ (s .radius) (a .axis-le) (a .eccentricity-le) h
 
 -- the bounds of a celestial position let it be turned
-pub turnable : {p : Position} → Box 580_000_000 580_000_000 290_000_000 p → Box (2 ^ 31) (2 ^ 31) (2 ^ 31) p
+pub turnable : {p : Position} → CelestialBox p → Turnable p
 turnable h =
     record { x-within = within-more (h .x-within) (lit≤ tt); y-within = within-more (h .y-within) (lit≤ tt); z-within = within-more (h .z-within) (lit≤ tt) }

@@ -1,12 +1,11 @@
 -- `orbit::in_plane` meets its contract. Assumes nothing.
 use borrow.Author.Needs.{needs}
 use mathlib.Core.Path.{refl, _∙_}
-use lib.Dec.{lit≤}
-use mir.Syntax.{w64}
 use mir.Facts.{toZ-ofZ}
-use Rattle.integer.proofs.Bounds.{within-pos}
+use Rattle.integer.proofs.TwosComplement.{read-back}
 use Rattle.position.proofs.Components.{same-position}
 use Rattle.orbit.specs.Placement.{planeOf}
+use Rattle.orbit.proofs.Distances.{plane-box}
 use Rattle.orbit.proofs.in_plane.Statement.{statement}
 use Rattle.orbit.proofs.in_plane.Tie as tie
 
@@ -22,16 +21,10 @@ returns c =
     let s = c .before .before in
     let x = c .before .plane-x in
     let y = c .plane-y in
-    let fx = toZ-ofZ {w = w64} {z = x .result} (record { sfits = x .ok }) in
-    let fy = toZ-ofZ {w = w64} {z = y .result} (record { sfits = y .ok }) in
-    record {
-      is = same-position (fx ∙ rw (toZ-ofZ (s .fits .cosine)) at (x .ensures .0)) (fy ∙ rw (toZ-ofZ (s .fits .sine)) at (y .ensures .0)) refl;
-      box = record {
-        x-within = rw fx (x .ensures .1);
-        y-within = rw fy (y .ensures .1);
-        z-within = within-pos (lit≤ tt);
-      };
-    }
+    let is = same-position (read-back (x .result) (x .ok) ∙ rw (toZ-ofZ (s .fits .cosine)) at (x .ensures))
+    (read-back (y .result) (y .ok) ∙ rw (toZ-ofZ (s .fits .sine)) at (y .ensures)) refl in
+    let p = s .pre in
+    record { is = is; box = rw is (plane-box _ _ _ _ _ (p .axis-le) (p .eccentricity-le) (p .minor-le) (p .cosine-within) (p .sine-within)) }
 
 pub in-plane-spec : {M : Type 1} → statement M
 in-plane-spec = tie.close (tie.spec plane-x-requires plane-y-requires returns)

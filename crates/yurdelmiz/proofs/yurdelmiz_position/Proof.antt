@@ -11,7 +11,8 @@ use Rattle.orbit.specs.declared.elements.Elements.{Elements}
 use Rattle.orbit.specs.declared.Placement.{Placement}
 use Rattle.orbit.specs.declared.Placement.the-variants.{Placed}
 use Rattle.orbit.specs.declared.State.{State}
-use Rattle.orbit.specs.Placement.{placement, Owes, StateOwes, PlacedAt}
+use Rattle.orbit.specs.Contract.{PlacementOwes, StateOwes, PlacedAt}
+use Rattle.orbit.specs.Placement.{placement}
 use Rattle.position.specs.Turn.{earthFixedOf}
 use Rattle.sun.specs.declared.Sun.{Sun}
 use Rattle.yurdelmiz.specs.Answers.{stateBytes}
@@ -51,7 +52,7 @@ module _ (c : tie.After-position) (s : State) (e : c .position .result ≡ Place
   given = sym (placed-at c .is) ∙ e
 
   owed : StateOwes (elements c) (time c) s
-  owed = subst (Owes (elements c) (time c)) e (placed-at c .owes)
+  owed = subst (PlacementOwes (elements c) (time c)) e (placed-at c .owes)
 
 earth-fixed-is : (c : tie.After-earth-fixed) → c .earth-fixed .result ≡ earthFixedAt (c .before .before .before .before .placement2 .given .0 .0 .position) (time (c .before .before .before .before .before .before))
 unfolding earthFixedAt

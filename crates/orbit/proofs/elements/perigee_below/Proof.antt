@@ -1,10 +1,9 @@
 -- `orbit::elements::perigee_below` meets its contract. Assumes nothing.
 use borrow.Author.Needs.{needs}
-use mathlib.Core.Path.{refl, sym}
-use native.Mathlib.Nat.{mul-le-mul, mul-zero}
+use mathlib.Core.Path.{refl}
+use native.Mathlib.Nat.{mul-le-mul}
 use native.Mathlib.Omega.{arith}
 use Prim.Native.Nat.{_≤_, _-_}
-use borrow.Author.Tests.{lt-ltb}
 use Rattle.orbit.specs.Elements.{perigeeBelow}
 use Rattle.orbit.proofs.Accepted.{perigee-beyond}
 use Rattle.orbit.proofs.elements.perigee_below.Statement.{statement}

@@ -1,14 +1,11 @@
 -- `orbit::elements::time_refused` meets its contract. Assumes nothing.
-use mathlib.Core.Path.{_≡_, _∙_, ap, sym}
-use mathlib.Core.Bool.{false, not}
-use native.Mathlib.Omega.{arith}
+use mathlib.Core.Path.{_∙_, ap, sym}
+use mathlib.Core.Bool.{not}
 use Prim.Native.Nat.{ℕ}
 use lib.Dec.{ltb}
-use lib.IntN.{natAbs, _-ℤ_}
 use mir.Facts.{toZ-ofZ}
 use borrow.Author.Needs.{needs}
 use Rattle.integer.proofs.Bounds.{sfits-within}
-use Rattle.time.specs.Range.{inRange}
 use Rattle.orbit.specs.Time.{timeRefused}
 use Rattle.orbit.proofs.Accepted.{apart}
 use Rattle.orbit.proofs.elements.time_refused.Statement.{statement}

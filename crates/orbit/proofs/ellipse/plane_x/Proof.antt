@@ -10,7 +10,7 @@ use mir.Val.{toZ, ofZ}
 use mir.Facts.{toZ-ofZ, toZ-pos}
 use Rattle.integer.proofs.Bounds.{within-more, sfits-within}
 use Rattle.orbit.specs.Ellipse.{e30, inPlaneX}
-use Rattle.orbit.proofs.Distances.{offset-within, x-product-within, x-within}
+use Rattle.orbit.proofs.Distances.{offset-within, x-product-within}
 use Rattle.orbit.proofs.ellipse.plane_x.Statement.{statement}
 use Rattle.orbit.proofs.ellipse.plane_x.Tie as tie
 
@@ -37,14 +37,11 @@ product-is c = rw (toZ-pos w64 {n = c .before .args .a} (omega arith), toZ-ofZ (
 scaled-requires : tie.Need-scaled-requires
 scaled-requires c κs = let s = c .before in rw (product-is c) (within-more (x-product-within (s .args .a) (s .args .e) (s .args .cosine) (s .pre .0) (s .pre .1 .0) (s .pre .1 .1)) (lit≤ tt))
 
-x-is : (c : tie.After-scaled) → let a = c .before .before .args in toZ w64 (ofZ w64 (c .scaled .result)) ≡ inPlaneX (a .a) (a .e) (a .cosine)
+returns : tie.Need-returns
 unfolding inPlaneX
-x-is c =
+returns c =
     toZ-ofZ (record { sfits = c .scaled .ok }) ∙ c .scaled .ensures
     ∙ ap (λ (z : ℤ). quotZ z (pos 1073741824)) (product-is (c .before))
-
-returns : tie.Need-returns
-returns c = let s = c .before .before in let e = x-is c in (e, rw e (x-within (s .args .a) (s .args .e) (s .args .cosine) (s .pre .0) (s .pre .1 .0) (s .pre .1 .1)))
 
 pub plane-x-spec : {M : Type 1} → statement M
 plane-x-spec =

@@ -10,7 +10,7 @@ use mir.Val.{toZ, ofZ}
 use mir.Facts.{toZ-ofZ, toZ-pos}
 use Rattle.integer.proofs.Bounds.{within-pos, within-mul, within-more}
 use Rattle.orbit.specs.Ellipse.{inPlaneY}
-use Rattle.orbit.proofs.Distances.{height-within, y-within}
+use Rattle.orbit.proofs.Distances.{height-within}
 use Rattle.orbit.proofs.ellipse.plane_y.Statement.{statement}
 use Rattle.orbit.proofs.ellipse.plane_y.Tie as tie
 
@@ -40,17 +40,11 @@ scaled-requires-2 c κs =
     rw (outer-is c)
     (within-more (within-mul (within-pos (s .pre .0)) (height-within (s .args .a) (s .args .minor-axis) (s .args .sine) (s .pre .0) (s .pre .1 .0) (s .pre .1 .1))) (lit≤ tt))
 
-y-is : (c : tie.After-scaled2) → let a = c .before .before .args in toZ w64 (ofZ w64 (c .scaled2 .result)) ≡ inPlaneY (a .a) (a .minor-axis) (a .sine)
+returns : tie.Need-returns
 unfolding inPlaneY
-y-is c =
+returns c =
     toZ-ofZ (record { sfits = c .scaled2 .ok }) ∙ c .scaled2 .ensures
     ∙ ap (λ (z : ℤ). quotZ z (pos 1073741824)) (outer-is (c .before))
-
-returns : tie.Need-returns
-returns c =
-    let s = c .before .before in
-    let e = y-is c in
-    (e, rw e (y-within (s .args .a) (s .args .minor-axis) (s .args .sine) (s .pre .0) (s .pre .1 .0) (s .pre .1 .1)))
 
 pub plane-y-spec : {M : Type 1} → statement M
 plane-y-spec =

@@ -10,7 +10,7 @@ use mir.Val.{toZ, ofZ}
 use mir.Facts.{toZ-ofZ, toZ-pos}
 use Rattle.integer.proofs.Bounds.{within-pos, within-mul, within-more, sfits-within}
 use Rattle.orbit.specs.Ellipse.{e30, radius}
-use Rattle.orbit.proofs.Distances.{e30-le, factor-within, radius-between}
+use Rattle.orbit.proofs.Distances.{e30-le, factor-within}
 use Rattle.orbit.proofs.ellipse.radius.Statement.{statement}
 use Rattle.orbit.proofs.ellipse.radius.Tie as tie
 
@@ -53,17 +53,11 @@ scaled-requires-2 c κs =
     rw (outer-is c)
     (within-more (within-mul (within-pos (s .pre .0)) (factor-within (s .args .a) (s .args .e) (s .args .cosine) (s .pre .0) (s .pre .1 .0) (s .pre .1 .1))) (lit≤ tt))
 
-radius-is : (c : tie.After-scaled2) → let a = c .before .before .before .args in toZ w64 (ofZ w64 (c .scaled2 .result)) ≡ radius (a .a) (a .e) (a .cosine)
+returns : tie.Need-returns
 unfolding radius
-radius-is c =
+returns c =
     toZ-ofZ (record { sfits = c .scaled2 .ok }) ∙ c .scaled2 .ensures
     ∙ ap (λ (z : ℤ). quotZ z (pos 1073741824)) (outer-is (c .before))
-
-returns : tie.Need-returns
-returns c =
-    let s = c .before .before .before in
-    let e = radius-is c in
-    (e, rw e (radius-between (s .args .a) (s .args .e) (s .args .cosine) (s .pre .1 .0) (s .pre .1 .1)))
 
 pub radius-spec : {M : Type 1} → statement M
 radius-spec =

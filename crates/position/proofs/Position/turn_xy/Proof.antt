@@ -11,8 +11,8 @@ turned-requires c κs = search needs
 returns : tie.Need-returns
 returns c =
     let pre = c .before .before .before .before .before .pre in
-    let t = read-turned (pre .x-within) (pre .y-within) (c .before .before .turned .ensures) (search needs) (search needs) in
-    same-position (t .0) (t .1) (read-within (pre .z-within) tt)
+    let t = read-turned (pre .0 .x-within) (pre .0 .y-within) (c .before .before .turned .ensures) (search needs) (search needs) in
+    same-position (t .0) (t .1) (read-within (pre .0 .z-within) tt)
 
 pub turn-xy-spec : {M : Type 1} → statement M
 turn-xy-spec = tie.close (tie.spec turned-requires returns)

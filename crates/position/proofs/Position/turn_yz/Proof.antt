@@ -11,8 +11,8 @@ turned-requires c κs = search needs
 returns : tie.Need-returns
 returns c =
     let pre = c .before .before .before .before .before .pre in
-    let t = read-turned (pre .y-within) (pre .z-within) (c .before .before .turned .ensures) (search needs) (search needs) in
-    same-position (read-within (pre .x-within) tt) (t .0) (t .1)
+    let t = read-turned (pre .0 .y-within) (pre .0 .z-within) (c .before .before .turned .ensures) (search needs) (search needs) in
+    same-position (read-within (pre .0 .x-within) tt) (t .0) (t .1)
 
 pub turn-yz-spec : {M : Type 1} → statement M
 turn-yz-spec = tie.close (tie.spec turned-requires returns)

@@ -1,4 +1,4 @@
--- `orbit::turns::mean_at` meets its contract. Assumes nothing.
+-- `orbit::turns::phase_at` meets its contract. Assumes nothing.
 use borrow.Author.Needs.{needs}
 use mathlib.Core.Path.{_≡_, _∙_, sym, ap}
 use Prim.Native.Nat.{ℕ, _+_, _-_, _≤_, _<_}
@@ -13,8 +13,8 @@ use Rattle.integer.proofs.Bounds.{within-pos, within-add, within-more, sfits-wi
 use Rattle.orbit.specs.Turns.{elapsedOf, wholeTurns, partOf, partTurn, anomalySum, revolution}
 use Rattle.orbit.proofs.Accepted.{accepted-at}
 use Rattle.orbit.proofs.MeanAnomaly.{anomaly-same, passages-same, anomaly-carried, passages-carried}
-use Rattle.orbit.proofs.turns.mean_at.Statement.{statement}
-use Rattle.orbit.proofs.turns.mean_at.Tie as tie
+use Rattle.orbit.proofs.turns.phase_at.Statement.{statement}
+use Rattle.orbit.proofs.turns.phase_at.Tie as tie
 
 elapsed-requires : tie.Need-elapsed-requires
 elapsed-requires c κs = search needs
@@ -26,8 +26,8 @@ turns-requires c κs = (accepted-at (c .before .args .elements) (c .before .args
 quotient-fits : (c : tie.After-turns) → SFits w64 (c .turns .result .quotient)
 quotient-fits c = search needs
 
-next-within : (c : tie.After-turns) → Within 10000 (c .turns .result .quotient +ℤ pos 1)
-next-within c = within-add (c .turns .ensures .quotient-small) (within-pos {a = 1} (lit≤ tt))
+next-within : (c : tie.After-turns) {n : ℕ} → n ≤ 1 → Within 10000 (c .turns .result .quotient +ℤ pos n)
+next-within c h = within-add (c .turns .ensures .quotient-small) (within-pos h)
 
 elapsed-is : (c : tie.After-elapsed) → toZ w64 (ofZ w64 (c .elapsed .result)) ≡ elapsedOf (c .before .args .elements) (c .before .args .time)
 elapsed-is c =
@@ -88,13 +88,13 @@ cast-t12 : tie.Need-cast-t12
 cast-t12 c = search needs
 
 add-revolution : tie.Need-add-revolution
-add-revolution c = rw (toZ-ofZ (quotient-fits (c .before .before .before .before))) (sfits-within (next-within (c .before .before .before .before)) tt)
+add-revolution c = rw (toZ-ofZ (quotient-fits (c .before .before .before .before))) (sfits-within (next-within (c .before .before .before .before) (lit≤ tt)) tt)
 
 revolution-requires-2 : tie.Need-revolution-requires-2
 revolution-requires-2 c κs =
     let s = c .before .before .before .before .before .before in
     let u = c .before .before .before .before in
-    (accepted-at (s .args .elements) (s .args .time) (s .pre) .elements .revolution-le, rw (toZ-ofZ (add-revolution c), toZ-ofZ (quotient-fits u)) (next-within u))
+    (accepted-at (s .args .elements) (s .args .time) (s .pre) .elements .revolution-le, rw (toZ-ofZ (add-revolution c), toZ-ofZ (quotient-fits u)) (next-within u (lit≤ tt)))
 
 returns-2 : tie.Need-returns-2
 unfolding revolution
@@ -112,8 +112,8 @@ returns-2 c =
           ∙ sym (passages-carried (a .elements) (a .time) h));
     }
 
-pub mean-at-spec : {M : Type 1} → statement M
-mean-at-spec =
+pub phase-at-spec : {M : Type 1} → statement M
+phase-at-spec =
     tie.close
     (tie.spec
     elapsed-requires
