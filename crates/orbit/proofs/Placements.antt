@@ -5,7 +5,8 @@ use native.Mathlib.Omega.{arith}
 use lib.IntN.{ℤ}
 use Rattle.trig.specs.Sine.{C}
 use Rattle.refusal.specs.declared.Refusal.{Refusal}
-use Rattle.kepler.specs.Solution.{solution, AnomalyAt}
+use Rattle.kepler.specs.Contract.{AnomalyAt}
+use Rattle.kepler.specs.Solution.{solution}
 use Rattle.kepler.specs.declared.Anomaly.{Anomaly}
 use Rattle.kepler.specs.declared.Solution.the-variants as solved
 use Rattle.position.specs.declared.Position.{Position}

@@ -6,7 +6,8 @@ use Rattle.integer.specs.Bound.{Within}
 use Rattle.trig.specs.Sine.{S, C}
 use Rattle.kepler.specs.Demand.{Demand3}
 use Rattle.kepler.specs.Kepler.{anomaly, halvings}
-use Rattle.kepler.specs.Solution.{solution, AnomalyAt}
+use Rattle.kepler.specs.Contract.{AnomalyAt}
+use Rattle.kepler.specs.Solution.{solution}
 use Rattle.kepler.specs.declared.Anomaly.{Anomaly}
 use Rattle.kepler.specs.declared.Solution.the-variants as solved
 use Rattle.position.specs.Box.{Box}

@@ -2,7 +2,7 @@
 use mathlib.Core.Path.{_≡_, _∙_, ap, subst}
 use Prim.Native.Nat.{ℕ}
 use mir.Facts.{toZ-ofZ}
-use Rattle.kepler.specs.Solution.{AnomalyAt}
+use Rattle.kepler.specs.Contract.{AnomalyAt}
 use Rattle.kepler.specs.declared.Anomaly.{Anomaly}
 use Rattle.orbit.specs.Placement.{stateOf}
 use Rattle.orbit.specs.Turns.{Mean, meanAnomaly}
