@@ -1,6 +1,8 @@
 pub mod Halves
 pub mod NextAngle
+pub mod Rises
 pub mod Bracket
+pub mod Decided
 pub mod Recursion
 pub mod Computed
 pub mod ExactTerm

@@ -1,3 +1,4 @@
 pub mod Kepler
 pub mod Demand
 pub mod Solution
+pub mod Contract

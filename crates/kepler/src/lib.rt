@@ -1,12 +1,22 @@
 // Kepler's equation by halving: document 01, "Kepler's equation".
+mod guess;
+mod window;
+
 ghost use mathlib.Core.Path.{_≡_};
 ghost use Prim.Native.Nat.{_+_, _^_, _≤_};
+ghost use Rattle.trig.specs.Contract.{Bounded};
+ghost use Rattle.kepler.specs.Contract.{AnomalyAt, Decides, DecidesAt, SolvedBy, lowerEnd, raisedTo};
 ghost use Rattle.kepler.specs.Kepler.{equation, halve};
-ghost use Rattle.kepler.specs.Solution.{AnomalyAt, SolvedBy};
 use refusal::Refusal;
 use trig::HALF_TURN;
 use trig::ONE;
 use trig::TURN;
+
+// The unit of eccentricity: this many make 1.
+const UNIT: u64 = 10_000_000;
+
+// The halvings made, which leave one angle of a whole turn.
+const HALVINGS: u64 = 32;
 
 // An eccentric anomaly, with the number of halvings made.
 pub struct Anomaly {
@@ -22,10 +32,10 @@ pub enum Solution {
 // k at an angle from 0 to a whole turn.
 fn equation(e: u64, angle: u64) -> u64
     requires { ⌜ (e ≤ 9_000_000) × (angle ≤ 2 ^ 32) ⌝ }
-    ensures { λ k. ⌜ k ≡ equation e angle ⌝ }
+    ensures { λ k. ⌜ Bounded (2 ^ 33) (equation e angle) k ⌝ }
 {
     let s = trig::sine_magnitude((angle % TURN) as u32);
-    let g = e * s / 10_000_000;
+    let g = e * s / UNIT;
     let h = g * 683_565_276 / ONE;
     if angle < HALF_TURN {
         angle - h
@@ -34,22 +44,36 @@ fn equation(e: u64, angle: u64) -> u64
     }
 }
 
-// The lower end after the halvings that are left of the ends low and low + width.
-fn halve(e: u64, m: u64, low: u64, width: u64, left: u64) -> u64
-    requires { ⌜ (e ≤ 9_000_000) × (width ≡ 2 ^ left) × (low + width ≤ 2 ^ 32) ⌝ }
-    ensures { λ r. ⌜ r ≡ halve e m low left ⌝ }
+// `from`, raised to the middle where the middle becomes the lower end and is beyond it. That the middle lies between `from` and `to` is one
+// test, most often false: on which side of them it lies could not be foreseen. Where the middle is not beyond `from`, the difference wraps.
+fn raised(e: u64, m: u64, from: u64, to: u64, middle: u64) -> u64
+    requires { ⌜ (e ≤ 9_000_000) × DecidesAt e m from to middle ⌝ }
+    ensures { λ r. ⌜ r ≡ raisedTo e m from middle ⌝ }
+{
+    let beyond = std::num::wrapping_sub_u64(middle, from + 1);
+    if beyond < to - from - 1 {
+        let k = equation(e, middle);
+        if k <= m {
+            return middle;
+        }
+    }
+    from
+}
+
+// The lower end after the halvings that are left, of the interval of `width` angles that `from` lies in. Up to `from` k is at most m, and from
+// `to` on it is above m, so that most halvings need no evaluation of k: the half that `from` lies in is the one that is left. Only a middle
+// between the two is evaluated.
+fn halve(e: u64, m: u64, from: u64, to: u64, width: u64, left: u64) -> u64
+    requires { ⌜ (e ≤ 9_000_000) × (width ≡ 2 ^ left) × (left ≤ 32) × (lowerEnd width from + width ≤ 2 ^ 32) × Decides e m (lowerEnd width from) from to ⌝ }
+    ensures { λ r. ⌜ r ≡ halve e m (lowerEnd width from) left ⌝ }
 {
     if left == 0 {
-        return low;
+        return from;
     }
     let half = width / 2;
-    let middle = low + half;
-    let k = equation(e, middle);
-    if k <= m {
-        halve(e, m, middle, half, left - 1)
-    } else {
-        halve(e, m, low, half, left - 1)
-    }
+    let middle = (from >> left) * width + half;
+    let next = raised(e, m, from, to, middle);
+    halve(e, m, next, to, half, left - 1)
 }
 
 // The eccentric anomaly of an eccentricity that the caller has found to be at most 9,000,000: without that, k may be below 0. Whether the
@@ -64,11 +88,18 @@ pub fn eccentric_anomaly(eccentricity: u32, mean_anomaly: u32) -> Anomaly
             halvings: 0,
         };
     }
-    let lower_end = halve(eccentricity as u64, mean_anomaly as u64, 0, TURN, 32);
+    let e = eccentricity as u64;
+    let m = mean_anomaly as u64;
+    let near = guess::guess(eccentricity, mean_anomaly);
+    let k = equation(e, near);
+    let window = window::of_guess(e, m, near, k);
+    let from = window.from;
+    let to = window.to;
+    let lower_end = halve(e, m, from, to, TURN, HALVINGS);
     let angle = lower_end as u32;
     Anomaly {
         angle,
-        halvings: 32,
+        halvings: HALVINGS as u32,
     }
 }
 

@@ -7,7 +7,8 @@ use Rattle.trig.specs.Sine.{C}
 use Rattle.trig.proofs.Quarters.{S-within, C-within}
 use Rattle.refusal.specs.declared.Refusal.{Refusal}
 use Rattle.kepler.specs.Demand.{Demand3}
-use Rattle.kepler.specs.Solution.{solution, AnomalyAt}
+use Rattle.kepler.specs.Contract.{AnomalyAt}
+use Rattle.kepler.specs.Solution.{solution}
 use Rattle.kepler.specs.declared.Anomaly.{Anomaly}
 use Rattle.kepler.specs.declared.Solution.the-variants as solved
 use Rattle.kepler.proofs.Answer.{anomaly-demand3, never-refused-9}

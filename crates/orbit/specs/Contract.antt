@@ -8,7 +8,7 @@ use Rattle.integer.specs.declared.FloorQuotient.{FloorQuotient}
 use Rattle.trig.specs.Contract.{SinesAt}
 use Rattle.trig.specs.declared.Sines.{Sines}
 use Rattle.kepler.specs.Demand.{Demand3}
-use Rattle.kepler.specs.Solution.{AnomalyAt}
+use Rattle.kepler.specs.Contract.{AnomalyAt}
 use Rattle.kepler.specs.declared.Anomaly.{Anomaly}
 use Rattle.position.specs.Box.{PlaneBox, CelestialBox}
 use Rattle.position.specs.declared.Position.{Position}

@@ -1,8 +1,10 @@
 -- `kepler::eccentric_anomaly` meets its contract. Assumes nothing.
-use mathlib.Core.Path.{subst}
+use mathlib.Core.Path.{refl, subst}
 use borrow.Author.Needs.{needs}
-use Rattle.kepler.specs.Solution.{AnomalyAt}
+use native.Mathlib.Omega.{arith}
+use Rattle.kepler.specs.Contract.{AnomalyAt}
 use Rattle.kepler.proofs.Answer.{anomaly-at, circle, ellipse, lower-end-below}
+use Rattle.kepler.proofs.Recursion.{whole-turn}
 use Rattle.kepler.proofs.eccentric_anomaly.Statement.{statement}
 use Rattle.kepler.proofs.eccentric_anomaly.Tie as tie
 
@@ -10,15 +12,42 @@ returns : tie.Need-returns
 returns c =
     subst (AnomalyAt _ _) (circle _ _ (c .if1 .taken)) (anomaly-at _ _ (c .before .pre) (search needs))
 
+guess-requires : tie.Need-guess-requires
+guess-requires c κs = search needs
+
+equation-requires : tie.Need-equation-requires
+equation-requires c κs = search needs
+
+of-guess-requires : tie.Need-of-guess-requires
+of-guess-requires c κs = search needs
+
 halve-requires : tie.Need-halve-requires
-halve-requires c κs = search needs
+halve-requires c κs =
+    let d = c .of-guess .ensures in
+    (c .before .before .before .before .pre, refl, omega arith, omega (arith, d .small), rw (whole-turn _ (d .small)) d)
 
 cast-angle : tie.Need-cast-angle
-cast-angle c = record { fits = lower-end-below _ _ _ (c .before .if1 .left) (c .halve .ensures) (search needs) }
+cast-angle c =
+    let i = rw (whole-turn _ (c .before .of-guess .ensures .small)) at (c .halve .ensures) in
+    record { fits = lower-end-below _ _ _ (c .before .before .before .before .if1 .left) i (search needs) }
+
+cast-t13 : tie.Need-cast-t13
+cast-t13 c = search needs
 
 returns-2 : tie.Need-returns-2
 returns-2 c =
-    subst (AnomalyAt _ _) (ellipse _ _ _ (c .before .if1 .left) (c .halve .ensures)) (anomaly-at _ _ (c .before .before .pre) (search needs))
+    let i = rw (whole-turn _ (c .before .of-guess .ensures .small)) at (c .halve .ensures) in
+    subst (AnomalyAt _ _) (ellipse _ _ _ (c .before .before .before .before .if1 .left) i) (anomaly-at _ _ (c .before .before .before .before .before .pre) (search needs))
 
 pub eccentric-anomaly-spec : {M : Type 1} → statement M
-eccentric-anomaly-spec = tie.close (tie.spec returns halve-requires cast-angle returns-2)
+eccentric-anomaly-spec =
+    tie.close
+    (tie.spec
+    returns
+    guess-requires
+    equation-requires
+    of-guess-requires
+    halve-requires
+    cast-angle
+    cast-t13
+    returns-2)

@@ -3,7 +3,8 @@ use borrow.Author.Needs.{needs}
 use mathlib.Core.Path.{_≡_, _∙_, ap, sym, subst}
 use native.Mathlib.Omega.{arith}
 use mir.Facts.{toZ-ofZ}
-use Rattle.kepler.specs.Solution.{solution, AnomalyAt, Owes}
+use Rattle.kepler.specs.Contract.{AnomalyAt, SolutionOwes}
+use Rattle.kepler.specs.Solution.{solution}
 use Rattle.orbit.specs.declared.Placement.the-variants.{Placed}
 use Rattle.orbit.specs.declared.elements.Verdict.the-variants.{Passed}
 use Rattle.orbit.specs.Contract.{PhaseAt, StateOwes}
@@ -44,11 +45,11 @@ enum-known-solution-2 : tie.Need-enum-known-solution-2
 enum-known-solution-2 c = search needs
 
 -- what the solver's answer owes, by its case
-owed : (c : tie.After-solve) → let a = c .before .before .before .before .before .args in Owes (a .elements .eccentricity) (meanAnomaly (a .elements) (a .time)) (c .solve .result)
+owed : (c : tie.After-solve) → let a = c .before .before .before .before .before .args in SolutionOwes (a .elements .eccentricity) (meanAnomaly (a .elements) (a .time)) (c .solve .result)
 owed c = rw (phase-at (c .before) .anomaly-is) at (c .solve .ensures .owes)
 
 anomaly-at : (c : tie.After-solution2) → let a = c .before .before .before .before .before .before .before .args in AnomalyAt (a .elements .eccentricity) (meanAnomaly (a .elements) (a .time)) (c .solution2 .given .0 .0)
-anomaly-at c = subst (Owes _ _) (c .solution2 .given .1) (owed (c .before .before))
+anomaly-at c = subst (SolutionOwes _ _) (c .solution2 .given .1) (owed (c .before .before))
 
 of-requires : tie.Need-of-requires
 of-requires c κs =
@@ -77,7 +78,7 @@ returns c =
 returns-2 : tie.Need-returns-2
 returns-2 c =
     let p = c .before .before .before .before .before in
-    let o = subst (Owes _ _) (c .before .solution .given .1) (owed (c .before .before .before)) in
+    let o = subst (SolutionOwes _ _) (c .before .solution .given .1) (owed (c .before .before .before)) in
     absurd (omega (arith, o .1, accepted-at _ _ (passed p) .elements .eccentricity-le))
 
 returns-3 : tie.Need-returns-3

@@ -2,7 +2,7 @@
 use borrow.Author.Needs.{needs}
 use mathlib.Core.Path.{_∙_, ap, sym, subst}
 use mir.Facts.{toZ-ofZ}
-use Rattle.kepler.specs.Solution.{AnomalyAt}
+use Rattle.kepler.specs.Contract.{AnomalyAt}
 use Rattle.orbit.specs.Contract.{PhaseAt, StateOwes}
 use Rattle.orbit.specs.Placement.{stateOf}
 use Rattle.orbit.specs.Turns.{meanAnomaly}

@@ -1,0 +1,48 @@
+-- `kepler::raised` meets its contract. Assumes nothing.
+use borrow.Author.Needs.{needs}
+use native.Mathlib.Omega.{arith}
+use Rattle.kepler.proofs.Recursion.{raised-up, kept, inside, outside}
+use Rattle.kepler.proofs.raised.Statement.{statement}
+use Rattle.kepler.proofs.raised.Tie as tie
+
+add-wrapping-sub-u64 : tie.Need-add-wrapping-sub-u64
+add-wrapping-sub-u64 c = search needs
+
+wrapping-sub-u64-requires : tie.Need-wrapping-sub-u64-requires
+wrapping-sub-u64-requires c κs = search needs
+
+sub-if1 : tie.Need-sub-if1
+sub-if1 c = search needs
+
+sub-if1-2 : tie.Need-sub-if1-2
+sub-if1-2 c = search needs
+
+equation-requires : tie.Need-equation-requires
+equation-requires c κs = search needs
+
+returns : tie.Need-returns
+returns c =
+    let d = c .before .before .before .before .pre .1 in
+    let w = c .before .before .before .wrapping-sub-u64 in
+    raised-up _ _ _ _ _ d (inside _ _ _ _ _ d _ (omega (arith, w)) (w .ensures) (c .before .before .if1 .taken)) (omega (arith, c .before .equation .ensures .is, c .if2 .taken))
+
+returns-2 : tie.Need-returns-2
+returns-2 c = kept _ _ _ _ _ (c .before .before .before .before .pre .1) (omega (arith, c .before .equation .ensures .is, c .if2 .left))
+
+returns-3 : tie.Need-returns-3
+returns-3 c =
+    let w = c .before .wrapping-sub-u64 in
+    outside _ _ _ _ _ (c .before .before .pre .1) _ (omega (arith, w)) (w .ensures) (c .if1 .left)
+
+pub raised-spec : {M : Type 1} → statement M
+raised-spec =
+    tie.close
+    (tie.spec
+    add-wrapping-sub-u64
+    wrapping-sub-u64-requires
+    sub-if1
+    sub-if1-2
+    equation-requires
+    returns
+    returns-2
+    returns-3)
