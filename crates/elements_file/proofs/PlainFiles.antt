@@ -15,7 +15,7 @@ use Rattle.elements_file.specs.Fields.{stored}
 use Rattle.elements_file.specs.Reading.{start, ended, step, afterBytes, concluded, parsed}
 use Rattle.elements_file.specs.Plain.{valueAfter, Written, numberOf, digitBytes, valueBytes, nameOf, lineOf, linesFrom, AllDigits, Plain, elementsOf}
 use Rattle.elements_file.specs.declared.Parsed.the-variants.{Whole}
-use Rattle.elements_file.specs.declared.Reading.{Reading}
+use Rattle.elements_file.specs.declared.Progress.{Progress}
 use Rattle.elements_file.specs.declared.line.Place.{Place}
 use Rattle.elements_file.specs.declared.line.Place.the-variants.{Start, Value}
 
@@ -26,7 +26,7 @@ grows m [] = le-refl m
 grows m (d ∷ ds) = let h = grows (10 * m + d) ds in le-trans (omega arith) h
 
 module _ (line element : ℕ) (el : Elements) where
-  abbrev reading : Place → Reading
+  abbrev reading : Place → Progress
   reading p = record { line = line; element = element; place = p; elements = el }
 
   digit-read : (negative had : Bool) (m d : ℕ) → d ≤ 9 → 10 * m + d ≤ largest element negative →
@@ -43,7 +43,7 @@ module _ (line element : ℕ) (el : Elements) where
   unfolding afterBytes valueAfter
   further-read negative m [] rest a h = refl
   further-read negative m (d ∷ ds) rest a h =
-      ap (λ (s : Reading). afterBytes s (digitBytes ds ++ rest)) (digit-read negative true m d (a .0) (le-trans (grows (10 * m + d) ds) h))
+      ap (λ (s : Progress). afterBytes s (digitBytes ds ++ rest)) (digit-read negative true m d (a .0) (le-trans (grows (10 * m + d) ds) h))
       ∙ further-read negative (10 * m + d) ds rest (a .1) h
 
   minus-read : isSigned element ≡ true → step (reading (Value unwritten)) 45 ≡ reading (Value minus)
@@ -57,12 +57,12 @@ module _ (line element : ℕ) (el : Elements) where
   signed-read false first further rest h a g k =
       let z : 10 * 0 + first ≡ first = omega arith in
       let one = rw z at (digit-read false false 0 first h (rw z (le-trans (grows first further) k))) in
-      ap (λ (s : Reading). afterBytes s (digitBytes further ++ rest)) one ∙ further-read false first further rest a k
+      ap (λ (s : Progress). afterBytes s (digitBytes further ++ rest)) one ∙ further-read false first further rest a k
   signed-read true first further rest h a g k =
       let z : 10 * 0 + first ≡ first = omega arith in
       let one = rw z at (digit-read true false 0 first h (rw z (le-trans (grows first further) k))) in
-      ap (λ (s : Reading). afterBytes (step s (48 + first)) (digitBytes further ++ rest)) (minus-read (g refl))
-      ∙ ap (λ (s : Reading). afterBytes s (digitBytes further ++ rest)) one
+      ap (λ (s : Progress). afterBytes (step s (48 + first)) (digitBytes further ++ rest)) (minus-read (g refl))
+      ∙ ap (λ (s : Progress). afterBytes s (digitBytes further ++ rest)) one
       ∙ further-read true first further rest a k
 
   ended-read : (w : Written) (rest : List ℕ) →

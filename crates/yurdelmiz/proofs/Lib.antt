@@ -1,4 +1,5 @@
 pub mod Narrow
+pub mod Words
 pub mod Fields
 pub mod Endings
 pub mod Placed

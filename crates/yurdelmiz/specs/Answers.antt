@@ -1,6 +1,6 @@
 -- The bytes of answers: include/yurdelmiz.h. Assumes nothing.
 use Prim.Native.Nat.{ℕ}
-use mathlib.Core.List.{List, [], _∷_}
+use mathlib.Core.List.{List, [], _∷_, _++_}
 use lib.IntN.{natAbs}
 use mir.Syntax.{w32, w64}
 use mir.Val.{ofZ}
@@ -8,10 +8,16 @@ use Rattle.endian.specs.LittleEndian.{bytes4, bytes8}
 use Rattle.kepler.specs.declared.Anomaly.{Anomaly}
 use Rattle.label_file.specs.declared.Counts.{Counts}
 use Rattle.orbit.specs.declared.State.{State}
+use Rattle.orbit.specs.declared.elements.Elements.{Elements}
 use Rattle.position.specs.declared.Position.{Position}
 use Rattle.sun.specs.declared.Direction.{Direction}
 use Rattle.sun.specs.declared.Sun.{Sun}
 use Rattle.yurdelmiz.specs.Call.{fields}
+
+-- numbers of four bytes
+unfoldable pub wordsBytes : List ℕ → List ℕ
+wordsBytes [] = []
+wordsBytes (w ∷ ws) = bytes4 w ++ wordsBytes ws
 
 -- 8 bytes: E, and the halvings made
 unfoldable pub anomalyFields : Anomaly → List (List ℕ)
@@ -64,6 +70,25 @@ stateFields s earth-fixed =
 
 abbrev pub stateBytes : State → Position → List ℕ
 stateBytes s earth-fixed = fields (stateFields s earth-fixed)
+
+-- 48 bytes: the elements, as the other calls take them
+unfoldable pub elementsFields : Elements → List (List ℕ)
+elementsFields el =
+    bytes8 (ofZ w64 (el .epoch))
+    ∷ bytes4 (el .eccentricity)
+    ∷ bytes4 (el .«semi_major_axis»)
+    ∷ bytes4 (el .inclination)
+    ∷ bytes4 (el .node)
+    ∷ bytes4 (el .«argument_of_perigee»)
+    ∷ bytes4 (el .«mean_anomaly»)
+    ∷ bytes4 (el .«mean_motion»)
+    ∷ bytes4 (ofZ w32 (el .«node_rate»))
+    ∷ bytes4 (ofZ w32 (el .«perigee_rate»))
+    ∷ bytes4 (el .«epoch_revolution»)
+    ∷ []
+
+abbrev pub elementsBytes : Elements → List ℕ
+elementsBytes el = fields (elementsFields el)
 
 -- 12 bytes: labels, training labels, test labels
 unfoldable pub countsFields : Counts → List (List ℕ)

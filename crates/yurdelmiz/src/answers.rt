@@ -1,21 +1,33 @@
 // The bytes of answers, in the order of include/yurdelmiz.h. A function that fills a buffer is called once
 // its length is found to be the header's.
 ghost use mathlib.Core.Path.{_≡_};
-ghost use Prim.Native.Nat.{_+_, _^_, _≤_, _<_};
+ghost use Prim.Native.Nat.{_+_, _*_, _^_, _≤_, _<_};
 ghost use lib.IntN.{natAbs};
 ghost use lib.ListN.{length};
 ghost use lib.Seq.{sets};
 ghost use Rattle.sun.specs.Contract.{WithinOne};
-ghost use Rattle.yurdelmiz.specs.Answers.{anomalyBytes, directionBytes, sunBytes, positionBytes, stateBytes, countsBytes};
+ghost use Rattle.yurdelmiz.specs.Answers.{wordsBytes, anomalyBytes, directionBytes, sunBytes, positionBytes, stateBytes, elementsBytes, countsBytes};
 ghost use Rattle.yurdelmiz.specs.Call.{statusAt};
-ghost use Rattle.refusal.specs.Numbers.{numberOf};
+ghost use Rattle.yurdelmiz.specs.Faults.{faultNumber, faultPlace};
+use elements_file::Fault;
 use kepler::Anomaly;
 use label_file::Counts;
 use orbit::State;
+use orbit::elements::Elements;
 use position::Position;
-use refusal::Refusal;
 use sun::Direction;
 use sun::Sun;
+
+fn write_words(answer: &mut [u8], at: usize, words: &[u32])
+    requires { ⌜ at + 4 * length (now words) ≤ length (now answer) ⌝ }
+    ensures { λ _. ⌜ now (answer .exit) ≡ sets (now (answer .entry)) at (wordsBytes (now (words .entry))) ⌝ }
+{
+    let mut i = 0;
+    while i < words.len() {
+        endian::write_u32(answer, at + 4 * i, words[i]);
+        i += 1;
+    }
+}
 
 pub fn write_anomaly(answer: &mut [u8], at: usize, anomaly: Anomaly)
     requires { ⌜ at + 8 ≤ length (now answer) ⌝ }
@@ -68,6 +80,26 @@ pub fn write_state(answer: &mut [u8], state: State, earth_fixed: Position)
     write_position(answer, 44, earth_fixed);
 }
 
+pub fn write_elements(answer: &mut [u8], elements: Elements)
+    requires { ⌜ length (now answer) ≡ 48 ⌝ }
+    ensures { λ _. ⌜ now (answer .exit) ≡ elementsBytes elements ⌝ }
+{
+    let words = [
+        elements.eccentricity,
+        elements.semi_major_axis,
+        elements.inclination,
+        elements.node,
+        elements.argument_of_perigee,
+        elements.mean_anomaly,
+        elements.mean_motion,
+        integer::bits_of_i32(elements.node_rate),
+        integer::bits_of_i32(elements.perigee_rate),
+        elements.epoch_revolution,
+    ];
+    endian::write_i64(answer, 0, elements.epoch);
+    write_words(answer, 8, &words);
+}
+
 pub fn write_counts(answer: &mut [u8], counts: Counts)
     requires { ⌜ length (now answer) ≡ 12 ⌝ }
     ensures { λ _. ⌜ now (answer .exit) ≡ countsBytes counts ⌝ }
@@ -77,9 +109,33 @@ pub fn write_counts(answer: &mut [u8], counts: Counts)
     endian::write_u32(answer, 8, counts.test);
 }
 
-// A refusal's number, and its place above it.
-pub fn status_at(refusal: Refusal, place: u32) -> u64
-    ensures { λ r. ⌜ r ≡ statusAt (numberOf refusal) place ⌝ }
+pub fn fault_number(fault: Fault) -> u32
+    ensures { λ r. ⌜ r ≡ faultNumber fault ⌝ }
 {
-    refusal.number() as u64 + 0x1_0000_0000 * (place as u64)
+    match fault {
+        Fault::Name => 101,
+        Fault::Extra => 102,
+        Fault::ControlByte => 103,
+        Fault::DecimalPoint => 104,
+        Fault::NotWhole => 105,
+        Fault::TooLarge => 106,
+        Fault::Unended => 107,
+        Fault::Missing => 108,
+        Fault::TooLong => 109,
+    }
+}
+
+// A file of 65,535 bytes has at most 65,536 lines, and 11 elements.
+pub fn fault_place(line: usize, element: u32) -> u32
+    requires { ⌜ (line ≤ 65_536) × (element ≤ 11) ⌝ }
+    ensures { λ r. ⌜ r ≡ faultPlace line element ⌝ }
+{
+    line as u32 + 0x100_0000 * element
+}
+
+// A number, and a place above it.
+pub fn status_at(number: u32, place: u32) -> u64
+    ensures { λ r. ⌜ r ≡ statusAt number place ⌝ }
+{
+    number as u64 + 0x1_0000_0000 * (place as u64)
 }

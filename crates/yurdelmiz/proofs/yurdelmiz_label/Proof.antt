@@ -30,6 +30,9 @@ label-day-requires c κs = search needs
 enum-known-labelled : tie.Need-enum-known-labelled
 enum-known-labelled c = search needs
 
+number-requires : tie.Need-number-requires
+number-requires c κs = search needs
+
 status-at-requires : tie.Need-status-at-requires
 status-at-requires c κs = search needs
 
@@ -42,10 +45,10 @@ same-length c = search needs
 returns-2 : tie.Need-returns-2
 unfolding labelCall
 returns-2 c =
-    let d = c .before .before .before .before .before .before in
+    let d = c .before .before .before .before .before .before .before in
     let l = day-is d in
-    let r = c .before .before .labelled .given .1 in
-    rw (unchanged l r) (ends-refused _ _ _ (c .status-at .ensures) (eq-eqb _ 48 (d .before .before .before .if1 .left)) (day-refused l r))
+    let r = c .before .before .before .labelled .given .1 in
+    rw (unchanged l r) (ends-refused _ _ _ (rw (c .before .number .ensures) at (c .status-at .ensures)) (eq-eqb _ 48 (d .before .before .before .if1 .left)) (day-refused l r))
 
 same-length-2 : tie.Need-same-length-2
 same-length-2 c = search needs
@@ -66,6 +69,7 @@ yurdelmiz-label-spec =
     read-elements-requires
     label-day-requires
     enum-known-labelled
+    number-requires
     status-at-requires
     enum-told
     same-length

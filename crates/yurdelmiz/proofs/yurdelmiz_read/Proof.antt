@@ -20,6 +20,9 @@ read-requires c κs = search needs
 enum-known-reading : tie.Need-enum-known-reading
 enum-known-reading c = search needs
 
+number-requires : tie.Need-number-requires
+number-requires c κs = search needs
+
 status-at-requires : tie.Need-status-at-requires
 status-at-requires c κs = search needs
 
@@ -32,8 +35,8 @@ write-counts-requires c κs = search needs
 returns-2 : tie.Need-returns-2
 unfolding readCall
 returns-2 c =
-    let r = c .before .before .before .before in
-    ends-refused _ _ _ (c .status-at .ensures) (eq-eqb _ 12 (r .before .if1 .left)) (ap countsOutcome (sym (r .read .ensures) ∙ c .before .before .reading .given .1))
+    let r = c .before .before .before .before .before in
+    ends-refused _ _ _ (rw (c .before .number .ensures) at (c .status-at .ensures)) (eq-eqb _ 12 (r .before .if1 .left)) (ap countsOutcome (sym (r .read .ensures) ∙ c .before .before .before .reading .given .1))
 
 same-length : tie.Need-same-length
 same-length c = search needs
@@ -53,6 +56,7 @@ yurdelmiz-read-spec =
     returns
     read-requires
     enum-known-reading
+    number-requires
     status-at-requires
     enum-known-reading-2
     write-counts-requires
