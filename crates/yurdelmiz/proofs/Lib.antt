@@ -1,6 +1,4 @@
-pub mod Narrow
-pub mod Words
-pub mod Fields
+pub mod Stores
 pub mod Endings
 pub mod Placed
 pub mod Days

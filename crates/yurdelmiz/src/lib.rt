@@ -44,7 +44,7 @@ pub extern "C" fn yurdelmiz_kepler(eccentricity: u32, mean_anomaly: u32, answer:
     match solution {
         Solution::Refused(refusal) => refusal.number(),
         Solution::Solved(anomaly) => {
-            answers::write_anomaly(answer, 0, anomaly);
+            answers::write_anomaly(answer, anomaly);
             0
         }
     }

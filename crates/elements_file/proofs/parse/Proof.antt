@@ -22,9 +22,6 @@ returns : tie.Need-returns Inv-loop μ-loop
 unfolding parsed
 returns c = rw (lt-ltb _ _ (c .if1 .taken))
 
-start-requires : tie.Need-start-requires Inv-loop μ-loop
-start-requires c κs = search needs
-
 loop-holds : tie.Need-loop-holds Inv-loop μ-loop
 loop-holds c = (omega arith, rw (c .start .ensures) start-consistent, rw (c .start .ensures))
 
@@ -49,9 +46,6 @@ loop-again c =
     let e = c .step .ensures in
     (omega arith, rw e (step-consistent (l .i) (l .s) _ (l .inv .1)), rw e (byte-read (l .s) text (l .i) (omega arith) ∙ l .inv .2))
 
-finished-requires : tie.Need-finished-requires Inv-loop μ-loop
-finished-requires c κs = search needs
-
 returns-2 : tie.Need-returns-2 Inv-loop μ-loop
 unfolding parsed
 returns-2 c =
@@ -67,12 +61,12 @@ parse-spec =
     Inv-loop
     μ-loop
     returns
-    start-requires
+    (λ c κs. search needs)
     loop-holds
     shared-slice-read-step
     step-requires
     add-i
     loop-less
     loop-again
-    finished-requires
+    (λ c κs. search needs)
     returns-2)

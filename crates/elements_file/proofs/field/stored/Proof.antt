@@ -92,9 +92,6 @@ unsigned-requires-8 c κs =
     let s = c .before .before .before .before .before .before .before .before .before .before .before .before in
     fits-unsigned 9 (s .args .element) (s .args .number .magnitude) (s .args .number .negative) refl (s .pre)
 
-epoch-requires : tie.Need-epoch-requires
-epoch-requires c κs = search needs
-
 returns : tie.Need-returns
 unfolding stored
 returns c =
@@ -130,5 +127,5 @@ stored-spec =
     rate-requires
     rate-requires-2
     unsigned-requires-8
-    epoch-requires
+    (λ c κs. search needs)
     returns)

@@ -6,16 +6,16 @@ use native.Mathlib.Omega.{arith}
 use denote.Ref.{now}
 use lib.ListN.{length, drop}
 use lib.Seq.{sets}
-use Rattle.yurdelmiz.specs.Answers.{wordsBytes}
-use Rattle.yurdelmiz.proofs.Words.{word-stored, all-stored}
+use Rattle.yurdelmiz.specs.Answers.{words}
+use Rattle.yurdelmiz.proofs.Stores.{word-stored, words-stored}
 use Rattle.yurdelmiz.proofs.answers.write_words.Statement.{statement}
 use Rattle.yurdelmiz.proofs.answers.write_words.Tie as tie
 
 abbrev Inv-loop : tie.InvT-loop
-Inv-loop answer₀ at words i₀ answer i = (i ≤ length words) × (length answer ≡ length answer₀) × (sets answer (at + 4 * i) (wordsBytes (drop i words)) ≡ sets answer₀ at (wordsBytes words))
+Inv-loop answer₀ at numbers i₀ answer i = (i ≤ length numbers) × (length answer ≡ length answer₀) × (sets answer (at + 4 * i) (words (drop i numbers)) ≡ sets answer₀ at (words numbers))
 
 abbrev μ-loop : tie.MeasureT-loop
-μ-loop answer₀ at words i₀ answer i = length words - i
+μ-loop answer₀ at numbers i₀ answer i = length numbers - i
 
 loop-holds : tie.Need-loop-holds Inv-loop μ-loop
 loop-holds c = (omega arith, refl, rw add-zero)
@@ -46,7 +46,7 @@ loop-again c =
     let w = c .before .before in
     let l = w .before .before .before .before .loop in
     let a = c .before .before .before .before .before .before .before .before .before .args in
-    (omega arith, omega arith, rw (w .write-u32 .ensures) (word-stored (l .answer) (a .at) (l .i) (now (a .words)) (omega arith) ∙ l .inv .2))
+    (omega arith, omega arith, rw (w .write-u32 .ensures) (word-stored (l .answer) (a .at) (l .i) (now (a .numbers)) (omega arith) ∙ l .inv .2))
 
 same-length : tie.Need-same-length Inv-loop μ-loop
 same-length c = omega arith
@@ -55,7 +55,7 @@ returns : tie.Need-returns Inv-loop μ-loop
 returns c =
     let a = c .before .before .before .before .args in
     let l = c .before .loop in
-    sym (all-stored (l .answer) (a .at) (l .i) (now (a .words)) (omega arith)) ∙ l .inv .2
+    sym (words-stored (l .answer) (a .at) (l .i) (now (a .numbers)) (omega arith)) ∙ l .inv .2
 
 pub write-words-spec : {M : Type 1} → statement M
 write-words-spec =
