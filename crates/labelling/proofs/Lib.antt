@@ -1,3 +1,4 @@
 pub mod Passing
 pub mod LabelFields
 pub mod DayCases
+pub mod WrittenFile

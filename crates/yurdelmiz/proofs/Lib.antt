@@ -2,3 +2,5 @@ pub mod Stores
 pub mod Endings
 pub mod Placed
 pub mod Days
+pub mod Elements
+pub mod AcceptedCalls
