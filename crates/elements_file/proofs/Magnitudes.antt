@@ -10,6 +10,7 @@ use lib.IntN.{pos, negsuc, negℤ}
 use lib.Signed.{mag}
 use mir.Syntax.{Width}
 use mir.Val.{hbits, SFits}
+use Rattle.integer.proofs.Tests.{and-true}
 use Rattle.elements_file.specs.Numbers.{largest, isRate, isEpoch, isDigit, signedOf}
 use Rattle.elements_file.specs.declared.number.Number.{Number}
 
@@ -69,11 +70,7 @@ below-zero zero h = absurd (h refl)
 below-zero (suc m) h = ap negsuc (omega arith)
 
 -- ---- a digit
-both : (a b : Bool) → (a && b) ≡ true → (a ≡ true) × (b ≡ true)
-both true b e = (refl, e)
-both false b e = absurd (subst T (sym e) tt)
-
 pub digit-range : (byte : ℕ) → isDigit byte ≡ true → (48 ≤ byte) × (byte ≤ 57)
 digit-range byte e =
-    let two = both (leb 48 byte) (leb byte 57) e in
+    let two = and-true (leb 48 byte) (leb byte 57) e in
     (leb-true 48 byte (two .0), leb-true byte 57 (two .1))

@@ -1,8 +1,8 @@
 // An elements file: eleven lines of a name, a space and a whole number, in a fixed order.
-pub mod field;
-pub mod line;
-pub mod name;
-pub mod number;
+mod field;
+mod line;
+mod name;
+mod number;
 
 use line::Place;
 use number::Number;
@@ -39,11 +39,11 @@ pub enum Parsed {
 
 // How far a file has been read: the line from 1, how many elements have been read, what the line holds so
 // far, and the elements.
-pub struct Progress {
-    pub line: usize,
-    pub element: u32,
-    pub place: Place,
-    pub elements: Elements,
+struct Progress {
+    line: usize,
+    element: u32,
+    place: Place,
+    elements: Elements,
 }
 
 fn start() -> Progress

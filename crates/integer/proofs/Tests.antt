@@ -31,6 +31,10 @@ pub or-false : (a b : Bool) → (a || b) ≡ false → (a ≡ false) × (b ≡ f
 or-false true b e = absurd (subst T e tt)
 or-false false b e = (refl, e)
 
+pub and-true : (a b : Bool) → (a && b) ≡ true → (a ≡ true) × (b ≡ true)
+and-true true b e = (refl, e)
+and-true false b e = absurd (subst T (sym e) tt)
+
 pub and-yes : (a b : Bool) → a ≡ true → b ≡ (a && b)
 and-yes true b e = refl
 and-yes false b e = absurd (subst T (sym e) tt)
