@@ -9,8 +9,9 @@
  * count 2^-30. A time is in seconds from 1990 Jan 0.0 (31 December 1989, 0h), with 86,400 a day.
  *
  * Status: 0 is accepted. A refusal is its number in document 01's table, below, and then no byte of
- * any slice is changed. YURDELMIZ_BAD_BUFFER is no refusal of the table: `elements` or `answer` has
- * another length than this header gives; that is looked at before all else, and nothing is changed.
+ * any slice is changed. Two kinds of status are no refusals of the table, and change nothing either:
+ * YURDELMIZ_BAD_BUFFER, where `elements` or `answer` has another length than this header gives, which
+ * is looked at before all else; and the faults of an elements file, from yurdelmiz_elements alone.
  *
  * No function keeps a pointer or uses anything but its arguments: calls may run in parallel on
  * separate buffers.
@@ -59,6 +60,28 @@ enum {
     YURDELMIZ_BAD_BUFFER = 255
 };
 
+/* The faults of an elements file. */
+enum {
+    /* The line does not begin with the name of the element that is due, and a space. */
+    YURDELMIZ_MALFORMED_NAME = 101,
+    /* A further line, which is no comment and not empty, after the last element. */
+    YURDELMIZ_MALFORMED_EXTRA = 102,
+    /* A byte below 32, as a tab or a carriage return, outside a comment. */
+    YURDELMIZ_MALFORMED_CONTROL_BYTE = 103,
+    /* A decimal point in a number. */
+    YURDELMIZ_MALFORMED_DECIMAL_POINT = 104,
+    /* No whole number, or something behind it. */
+    YURDELMIZ_MALFORMED_NOT_WHOLE = 105,
+    /* A number too large for the field of its element. */
+    YURDELMIZ_MALFORMED_TOO_LARGE = 106,
+    /* The file ends within a line. */
+    YURDELMIZ_MALFORMED_UNENDED = 107,
+    /* The file ends before its last element. */
+    YURDELMIZ_MALFORMED_MISSING = 108,
+    /* The file has more than 65,535 bytes. */
+    YURDELMIZ_MALFORMED_TOO_LONG = 109
+};
+
 /* Lengths of `elements` and of each `answer`, in bytes. */
 enum {
     YURDELMIZ_ELEMENTS_BYTES = 48,
@@ -69,10 +92,14 @@ enum {
     YURDELMIZ_READ_BYTES = 12
 };
 
-/* The two parts of what yurdelmiz_label and yurdelmiz_read return: the status, and the place of a
- * refusal, which is the number of the record or label from 0, and 0 where none applies. */
+/* The parts of a result of 64 bits: the status; from yurdelmiz_label and yurdelmiz_read the place of
+ * a refusal, which is the number of the record or label from 0, and 0 where none applies; from
+ * yurdelmiz_elements the line of a fault, from 1, and the number from 0 of the element that was due
+ * there, in the order of the file, 11 behind the last. */
 #define YURDELMIZ_STATUS(result) ((uint32_t)((result) & 0xffffffffu))
 #define YURDELMIZ_PLACE(result) ((uint32_t)((result) >> 32))
+#define YURDELMIZ_LINE(result) ((uint32_t)((result) >> 32) & 0xffffffu)
+#define YURDELMIZ_ELEMENT(result) ((uint32_t)((result) >> 56))
 
 /* S(angle) and C(angle), from -2^30 to 2^30. */
 int64_t yurdelmiz_sine(uint32_t angle);
@@ -140,6 +167,25 @@ uint32_t yurdelmiz_shade(int64_t x, int64_t y, int64_t z,
                          int64_t sun_x, int64_t sun_y, int64_t sun_z,
                          uint8_t *answer, size_t answer_len);
 
+/* Reads the text of an elements file: a line for each element with its name, a space and a whole
+ * number, in the order below; empty lines and lines that begin with # may stand anywhere, and LF ends
+ * every line. It only reads: which values are refused is told by the calls that take elements. A
+ * fault, the first in the file, is one of the statuses from 101 on; a text of over 65,535 bytes has
+ * line 1 and element 0.
+ *
+ *   lines, in this order:
+ *     0  eccentricity            6  mean_motion
+ *     1  semi_major_axis         7  node_rate
+ *     2  inclination             8  perigee_rate
+ *     3  node                    9  epoch_revolution
+ *     4  argument_of_perigee    10  epoch
+ *     5  mean_anomaly
+ *
+ *   answer, 48 bytes: `elements`, as above
+ */
+uint64_t yurdelmiz_elements(const uint8_t *text, size_t text_len,
+                            uint8_t *answer, size_t answer_len);
+
 /* Labels a day's telemetry: 24 bytes a record from the start of `output`, then the trailer's 16.
  * What lies behind the trailer is unchanged. Refusals 1 to 7 for the elements, 8 for the epoch, 10,
  * 11, all at place 0; then 8, 9 for each record in order, at its place. `elements` as above.
@@ -168,9 +214,9 @@ uint64_t yurdelmiz_label(const uint8_t *elements, size_t elements_len,
                          const uint8_t *telemetry, size_t telemetry_len,
                          uint8_t *output, size_t output_len);
 
-/* Reads the label file in the first `length` bytes of `file`. Bytes ahead of the first label belong
- * to others; the first label is at length - 24 * labels - 16. Refusal 12 at place 0, also where
- * `length` is beyond `file_len`; 13 at the first label that breaks a field rule, or at the number
+/* Reads the label file in the first `size` bytes of `file`. Bytes ahead of the first label belong
+ * to others; the first label is at size - 24 * labels - 16. Refusal 12 at place 0, also where
+ * `size` is beyond `file_len`; 13 at the first label that breaks a field rule, or at the number
  * of labels where the trailer's counts are not those of the labels.
  *
  *   answer, 12 bytes:
@@ -178,7 +224,7 @@ uint64_t yurdelmiz_label(const uint8_t *elements, size_t elements_len,
  *     4  u32  training labels
  *     8  u32  test labels
  */
-uint64_t yurdelmiz_read(const uint8_t *file, size_t file_len, size_t length,
+uint64_t yurdelmiz_read(const uint8_t *file, size_t file_len, size_t size,
                         uint8_t *answer, size_t answer_len);
 
 #ifdef __cplusplus

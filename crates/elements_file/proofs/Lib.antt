@@ -1,6 +1,6 @@
 pub mod Choices
 pub mod Bytes
 pub mod Magnitudes
-pub mod Soundness
+pub mod Consistency
 pub mod Bytewise
 pub mod PlainFiles

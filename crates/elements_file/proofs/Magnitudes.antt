@@ -8,8 +8,9 @@ use borrow.Author.Tests.{eqb-true, leb-true}
 use lib.Dec.{T, eqb, leb, lit≤}
 use lib.IntN.{pos, negsuc, negℤ}
 use lib.Signed.{mag}
-use mir.Syntax.{w32}
-use mir.Val.{SFits}
+use mir.Syntax.{Width}
+use mir.Val.{hbits, SFits}
+use Rattle.integer.proofs.Tests.{and-true}
 use Rattle.elements_file.specs.Numbers.{largest, isRate, isEpoch, isDigit, signedOf}
 use Rattle.elements_file.specs.declared.number.Number.{Number}
 
@@ -58,10 +59,10 @@ mag-signed b m false h = h
 mag-signed b zero true h = zero-le
 mag-signed b (suc m) true h = le-of-suc-le-suc h
 
-pub fits-rate : (k element : ℕ) (n : Number) → largest k (n .negative) ≡ cond (n .negative) (2 ^ 31) (2 ^ 31 - 1) → n .magnitude ≤ largest element (n .negative) → eqb element k ≡ true → SFits w32 (signedOf n)
+pub fits-signed : (w : Width) (b k element : ℕ) (n : Number) → 2 ^ hbits w ≡ suc b → largest k (n .negative) ≡ cond (n .negative) (suc b) b → n .magnitude ≤ largest element (n .negative) → eqb element k ≡ true → SFits w (signedOf n)
 unfolding signedOf
-fits-rate k element n e h t =
-    let h' = mag-signed (2 ^ 31 - 1) (n .magnitude) (n .negative) (rw (eqb-true element k t, e) at h) in
+fits-signed w b k element n half e h t =
+    let h' = mag-signed b (n .magnitude) (n .negative) (rw (eqb-true element k t, e) at h) in
     record { sfits = omega arith }
 
 pub below-zero : (m : ℕ) → (m ≡ 0 → ⊥) → negsuc (m - 1) ≡ negℤ (pos m)
@@ -69,11 +70,7 @@ below-zero zero h = absurd (h refl)
 below-zero (suc m) h = ap negsuc (omega arith)
 
 -- ---- a digit
-both : (a b : Bool) → (a && b) ≡ true → (a ≡ true) × (b ≡ true)
-both true b e = (refl, e)
-both false b e = absurd (subst T (sym e) tt)
-
 pub digit-range : (byte : ℕ) → isDigit byte ≡ true → (48 ≤ byte) × (byte ≤ 57)
 digit-range byte e =
-    let two = both (leb 48 byte) (leb byte 57) e in
+    let two = and-true (leb 48 byte) (leb byte 57) e in
     (leb-true 48 byte (two .0), leb-true byte 57 (two .1))

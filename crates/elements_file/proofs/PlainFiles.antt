@@ -1,4 +1,4 @@
--- A plain file is taken, with the elements that it writes. Assumes nothing.
+-- The definition takes every plain file, with the elements that it writes: a theorem that no function needs. Assumes nothing.
 use mathlib.Core.Path.{_≡_, refl, ap, _∙_}
 use mathlib.Core.Bool.{Bool, true, false, cond}
 use mathlib.Core.List.{List, [], _∷_, _++_, append-assoc}
@@ -13,9 +13,9 @@ use Rattle.elements_file.specs.Numbers.{isSigned, largest, unwritten, mi
 use Rattle.elements_file.specs.Lines.{named, counted, valued, begun, within}
 use Rattle.elements_file.specs.Fields.{stored}
 use Rattle.elements_file.specs.Reading.{start, ended, step, afterBytes, concluded, parsed}
-use Rattle.elements_file.specs.Plain.{valueAfter, Written, numberOf, digitBytes, valueBytes, nameOf, lineOf, linesFrom, AllDigits, Plain, elementsOf}
+use Rattle.elements_file.specs.Plain.{valueAfter, Numeral, readNumber, digitBytes, valueBytes, nameOf, lineOf, linesFrom, AllDigits, Plain, writtenElements}
 use Rattle.elements_file.specs.declared.Parsed.the-variants.{Whole}
-use Rattle.elements_file.specs.declared.Reading.{Reading}
+use Rattle.elements_file.specs.declared.Progress.{Progress}
 use Rattle.elements_file.specs.declared.line.Place.{Place}
 use Rattle.elements_file.specs.declared.line.Place.the-variants.{Start, Value}
 
@@ -26,7 +26,7 @@ grows m [] = le-refl m
 grows m (d ∷ ds) = let h = grows (10 * m + d) ds in le-trans (omega arith) h
 
 module _ (line element : ℕ) (el : Elements) where
-  abbrev reading : Place → Reading
+  abbrev reading : Place → Progress
   reading p = record { line = line; element = element; place = p; elements = el }
 
   digit-read : (negative had : Bool) (m d : ℕ) → d ≤ 9 → 10 * m + d ≤ largest element negative →
@@ -43,7 +43,7 @@ module _ (line element : ℕ) (el : Elements) where
   unfolding afterBytes valueAfter
   further-read negative m [] rest a h = refl
   further-read negative m (d ∷ ds) rest a h =
-      ap (λ (s : Reading). afterBytes s (digitBytes ds ++ rest)) (digit-read negative true m d (a .0) (le-trans (grows (10 * m + d) ds) h))
+      ap (λ (s : Progress). afterBytes s (digitBytes ds ++ rest)) (digit-read negative true m d (a .0) (le-trans (grows (10 * m + d) ds) h))
       ∙ further-read negative (10 * m + d) ds rest (a .1) h
 
   minus-read : isSigned element ≡ true → step (reading (Value unwritten)) 45 ≡ reading (Value minus)
@@ -57,17 +57,17 @@ module _ (line element : ℕ) (el : Elements) where
   signed-read false first further rest h a g k =
       let z : 10 * 0 + first ≡ first = omega arith in
       let one = rw z at (digit-read false false 0 first h (rw z (le-trans (grows first further) k))) in
-      ap (λ (s : Reading). afterBytes s (digitBytes further ++ rest)) one ∙ further-read false first further rest a k
+      ap (λ (s : Progress). afterBytes s (digitBytes further ++ rest)) one ∙ further-read false first further rest a k
   signed-read true first further rest h a g k =
       let z : 10 * 0 + first ≡ first = omega arith in
       let one = rw z at (digit-read true false 0 first h (rw z (le-trans (grows first further) k))) in
-      ap (λ (s : Reading). afterBytes (step s (48 + first)) (digitBytes further ++ rest)) (minus-read (g refl))
-      ∙ ap (λ (s : Reading). afterBytes s (digitBytes further ++ rest)) one
+      ap (λ (s : Progress). afterBytes (step s (48 + first)) (digitBytes further ++ rest)) (minus-read (g refl))
+      ∙ ap (λ (s : Progress). afterBytes s (digitBytes further ++ rest)) one
       ∙ further-read true first further rest a k
 
-  ended-read : (w : Written) (rest : List ℕ) →
-      afterBytes (reading (Value (numberOf w))) (10 ∷ rest)
-      ≡ afterBytes (record { line = line + 1; element = element + 1; place = Start; elements = stored el element (numberOf w) }) rest
+  ended-read : (w : Numeral) (rest : List ℕ) →
+      afterBytes (reading (Value (readNumber w))) (10 ∷ rest)
+      ≡ afterBytes (record { line = line + 1; element = element + 1; place = Start; elements = stored el element (readNumber w) }) rest
   unfolding afterBytes step ended
   ended-read w rest = refl
 
@@ -75,9 +75,9 @@ module _ (line element : ℕ) (el : Elements) where
   abbrev pub NameTaken : Type 0
   NameTaken = (rest : List ℕ) → afterBytes (reading Start) (nameOf element ++ (32 ∷ rest)) ≡ afterBytes (reading (Value unwritten)) rest
 
-  pub line-read : NameTaken → (w : Written) (rest : List ℕ) → Plain element w →
+  pub line-read : NameTaken → (w : Numeral) (rest : List ℕ) → Plain element w →
       afterBytes (reading Start) (lineOf element w ++ rest)
-      ≡ afterBytes (record { line = line + 1; element = element + 1; place = Start; elements = stored el element (numberOf w) }) rest
+      ≡ afterBytes (record { line = line + 1; element = element + 1; place = Start; elements = stored el element (readNumber w) }) rest
   unfolding lineOf valueBytes
   line-read name w rest p =
       simp append-assoc (name _ ∙ signed-read (w .negative) (w .first) (w .further) (10 ∷ rest) (p .leading) (p .following) (p .signed) (p .held) ∙ ended-read w rest)
@@ -98,11 +98,11 @@ names-taken line (suc (suc (suc (suc (suc (suc (suc (suc (suc (suc zero)))))))))
 names-taken line (suc (suc (suc (suc (suc (suc (suc (suc (suc (suc (suc k))))))))))) el h = absurd (omega arith)
 
 -- ---- a file
-storedFrom : ℕ → ℕ → (ℕ → Written) → Elements → Elements
+storedFrom : ℕ → ℕ → (ℕ → Numeral) → Elements → Elements
 storedFrom element zero w el = el
-storedFrom element (suc n) w el = storedFrom (element + 1) n w (stored el element (numberOf (w element)))
+storedFrom element (suc n) w el = storedFrom (element + 1) n w (stored el element (readNumber (w element)))
 
-lines-read : (line element n : ℕ) (w : ℕ → Written) (el : Elements) → element + n ≤ 11 → ((k : ℕ) → k < 11 → Plain k (w k)) →
+lines-read : (line element n : ℕ) (w : ℕ → Numeral) (el : Elements) → element + n ≤ 11 → ((k : ℕ) → k < 11 → Plain k (w k)) →
     afterBytes (record { line = line; element = element; place = Start; elements = el }) (linesFrom element n w)
     ≡ record { line = line + n; element = element + n; place = Start; elements = storedFrom element n w el }
 unfolding afterBytes linesFrom storedFrom
@@ -112,9 +112,9 @@ lines-read line element (suc n) w el h p =
     let l : line + 1 + n ≡ line + suc n = omega arith in
     let e : element + 1 + n ≡ element + suc n = omega arith in
     line-read line element el (names-taken line element el due) (w element) (linesFrom (element + 1) n w) (p element due)
-    ∙ rw (l, e) at (lines-read (line + 1) (element + 1) n w (stored el element (numberOf (w element))) (omega arith) p)
+    ∙ rw (l, e) at (lines-read (line + 1) (element + 1) n w (stored el element (readNumber (w element))) (omega arith) p)
 
 -- every plain file is taken, and gives the elements that it writes
-pub plain-taken : (w : ℕ → Written) → ((k : ℕ) → k < 11 → Plain k (w k)) → length (linesFrom 0 11 w) ≤ 65535 → parsed (linesFrom 0 11 w) ≡ Whole (elementsOf w)
+pub plain-taken : (w : ℕ → Numeral) → ((k : ℕ) → k < 11 → Plain k (w k)) → length (linesFrom 0 11 w) ≤ 65535 → parsed (linesFrom 0 11 w) ≡ Whole (writtenElements w)
 unfolding parsed start concluded storedFrom stored
 plain-taken w p h = rw (le-ltb 65535 (length (linesFrom 0 11 w)) h, lines-read 1 0 11 w _ (omega arith) p)

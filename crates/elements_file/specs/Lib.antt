@@ -4,3 +4,4 @@ pub mod Lines
 pub mod Fields
 pub mod Reading
 pub mod Plain
+pub mod Contract

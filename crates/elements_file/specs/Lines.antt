@@ -1,8 +1,8 @@
 -- What a byte does to the line that it stands in. Assumes nothing.
-use Prim.Native.Nat.{ℕ, _+_, _-_, _≤_, _<_}
+use Prim.Native.Nat.{ℕ, _+_, _-_}
 use mathlib.Core.Bool.{cond}
 use lib.Dec.{eqb, ltb, leb}
-use Rattle.elements_file.specs.Names.{nameByte, Within}
+use Rattle.elements_file.specs.Names.{nameByte}
 use Rattle.elements_file.specs.Numbers.{largest, unwritten, minus, takesMinus, grown, isDigit}
 use Rattle.elements_file.specs.declared.Fault.{Fault}
 use Rattle.elements_file.specs.declared.Fault.the-variants.{Name, Extra, ControlByte, DecimalPoint, NotWhole, TooLarge}
@@ -48,11 +48,3 @@ within Comment element byte = Comment
 within (Named k) element byte = named element k byte
 within (Value n) element byte = valued element n byte
 within (Faulty fault) element byte = Faulty fault
-
--- a line with a name has an element that is due, and holds the number so far
-abbrev pub Fitting : ℕ → Place → Type 0
-Fitting element Start = Unit {0}
-Fitting element Comment = Unit {0}
-Fitting element (Named k) = Within element k
-Fitting element (Value n) = (element < 11) × (n .magnitude ≤ largest element (n .negative))
-Fitting element (Faulty fault) = Unit {0}

@@ -1,5 +1,5 @@
 -- The names of the elements. Assumes nothing.
-use Prim.Native.Nat.{ℕ, _+_, _*_, _≤_, _<_}
+use Prim.Native.Nat.{ℕ, _+_, _*_}
 use mathlib.Core.List.{List, [], _∷_}
 use lib.ListN.{getD}
 
@@ -33,8 +33,3 @@ names =
 -- byte k of the row of an element
 unfoldable pub nameByte : ℕ → ℕ → ℕ
 nameByte element k = getD names (20 * element + k) 32
-
--- an element of the file, and a place in the names
-pub record Within (element k : ℕ) : Type 0 where
-  pub due : element < 11
-  pub place : k ≤ 220

@@ -16,20 +16,20 @@ valueAfter m [] = m
 valueAfter m (d ∷ ds) = valueAfter (10 * m + d) ds
 
 -- a minus or none, a first digit, and further ones
-pub record Written : Type 0 where
+pub record Numeral : Type 0 where
   pub negative : Bool
   pub first : ℕ
   pub further : List ℕ
 
-abbrev pub numberOf : Written → Number
-numberOf w = record { negative = w .negative; digits = true; magnitude = valueAfter (w .first) (w .further) }
+abbrev pub readNumber : Numeral → Number
+readNumber w = record { negative = w .negative; digits = true; magnitude = valueAfter (w .first) (w .further) }
 
 -- ---- the bytes
 abbrev pub digitBytes : List ℕ → List ℕ
 digitBytes [] = []
 digitBytes (d ∷ ds) = (48 + d) ∷ digitBytes ds
 
-unfoldable pub valueBytes : Written → List ℕ
+unfoldable pub valueBytes : Numeral → List ℕ
 valueBytes w = cond (w .negative) (45 ∷ []) [] ++ ((48 + w .first) ∷ digitBytes (w .further))
 
 abbrev pub upToSpace : List ℕ → List ℕ
@@ -40,10 +40,10 @@ unfoldable pub nameOf : ℕ → List ℕ
 nameOf element = upToSpace (drop (20 * element) names)
 
 -- the name, a space, the value, LF
-unfoldable pub lineOf : ℕ → Written → List ℕ
+unfoldable pub lineOf : ℕ → Numeral → List ℕ
 lineOf element w = nameOf element ++ (32 ∷ (valueBytes w ++ (10 ∷ [])))
 
-unfoldable pub linesFrom : ℕ → ℕ → (ℕ → Written) → List ℕ
+unfoldable pub linesFrom : ℕ → ℕ → (ℕ → Numeral) → List ℕ
 linesFrom element zero w = []
 linesFrom element (suc n) w = lineOf element (w element) ++ linesFrom (element + 1) n w
 
@@ -53,24 +53,24 @@ AllDigits [] = Unit {0}
 AllDigits (d ∷ ds) = (d ≤ 9) × AllDigits ds
 
 -- digits, and a number that the element holds
-pub record Plain (element : ℕ) (w : Written) : Type 0 where
+pub record Plain (element : ℕ) (w : Numeral) : Type 0 where
   pub leading : w .first ≤ 9
   pub following : AllDigits (w .further)
   pub signed : w .negative ≡ true → isSigned element ≡ true
-  pub held : numberOf w .magnitude ≤ largest element (w .negative)
+  pub held : readNumber w .magnitude ≤ largest element (w .negative)
 
-abbrev pub elementsOf : (ℕ → Written) → Elements
-elementsOf w =
+abbrev pub writtenElements : (ℕ → Numeral) → Elements
+writtenElements w =
     record {
-      eccentricity = numberOf (w 0) .magnitude;
-      «semi_major_axis» = numberOf (w 1) .magnitude;
-      inclination = numberOf (w 2) .magnitude;
-      node = numberOf (w 3) .magnitude;
-      «argument_of_perigee» = numberOf (w 4) .magnitude;
-      «mean_anomaly» = numberOf (w 5) .magnitude;
-      «mean_motion» = numberOf (w 6) .magnitude;
-      «node_rate» = signedOf (numberOf (w 7));
-      «perigee_rate» = signedOf (numberOf (w 8));
-      «epoch_revolution» = numberOf (w 9) .magnitude;
-      epoch = signedOf (numberOf (w 10));
+      eccentricity = readNumber (w 0) .magnitude;
+      «semi_major_axis» = readNumber (w 1) .magnitude;
+      inclination = readNumber (w 2) .magnitude;
+      node = readNumber (w 3) .magnitude;
+      «argument_of_perigee» = readNumber (w 4) .magnitude;
+      «mean_anomaly» = readNumber (w 5) .magnitude;
+      «mean_motion» = readNumber (w 6) .magnitude;
+      «node_rate» = signedOf (readNumber (w 7));
+      «perigee_rate» = signedOf (readNumber (w 8));
+      «epoch_revolution» = readNumber (w 9) .magnitude;
+      epoch = signedOf (readNumber (w 10));
     }

@@ -1,15 +1,16 @@
 // An elements file: eleven lines of a name, a space and a whole number, in a fixed order.
-pub mod field;
-pub mod line;
-pub mod name;
-pub mod number;
+mod field;
+mod line;
+mod name;
+mod number;
 
 use line::Place;
 use number::Number;
 use orbit::elements::Elements;
 ghost use mathlib.Core.Path.{_≡_};
 ghost use Prim.Native.Nat.{_≤_};
-ghost use Rattle.elements_file.specs.Reading.{Sound, Due, start, at, nextLine, nextElement, ended, step, concluded, parsed};
+ghost use Rattle.elements_file.specs.Contract.{Consistent, Due};
+ghost use Rattle.elements_file.specs.Reading.{start, at, nextLine, nextElement, ended, step, concluded, parsed};
 
 // What a file breaks.
 pub enum Fault {
@@ -36,18 +37,19 @@ pub enum Parsed {
     Malformed(usize, u32, Fault),
 }
 
-// The line from 1, how many elements have been read, what the line holds so far, and the elements.
-pub struct Reading {
-    pub line: usize,
-    pub element: u32,
-    pub place: Place,
-    pub elements: Elements,
+// How far a file has been read: the line from 1, how many elements have been read, what the line holds so
+// far, and the elements.
+struct Progress {
+    line: usize,
+    element: u32,
+    place: Place,
+    elements: Elements,
 }
 
-fn start() -> Reading
+fn start() -> Progress
     ensures { λ r. ⌜ r ≡ start ⌝ }
 {
-    Reading {
+    Progress {
         line: 1,
         element: 0,
         place: Place::Start,
@@ -67,12 +69,12 @@ fn start() -> Reading
     }
 }
 
-// The same reading with another place in its line.
-fn at(s: Reading, place: Place) -> Reading
+// The same with another place in the line.
+fn at(s: Progress, place: Place) -> Progress
     ensures { λ r. ⌜ r ≡ at s place ⌝ }
 {
     let elements = s.elements;
-    Reading {
+    Progress {
         line: s.line,
         element: s.element,
         place,
@@ -80,12 +82,12 @@ fn at(s: Reading, place: Place) -> Reading
     }
 }
 
-fn next_line(s: Reading) -> Reading
+fn next_line(s: Progress) -> Progress
     requires { ⌜ s .line ≤ 65_535 ⌝ }
     ensures { λ r. ⌜ r ≡ nextLine s ⌝ }
 {
     let elements = s.elements;
-    Reading {
+    Progress {
         line: s.line + 1,
         element: s.element,
         place: Place::Start,
@@ -93,12 +95,12 @@ fn next_line(s: Reading) -> Reading
     }
 }
 
-fn next_element(s: Reading, number: Number) -> Reading
+fn next_element(s: Progress, number: Number) -> Progress
     requires { ⌜ Due s number ⌝ }
     ensures { λ r. ⌜ r ≡ nextElement s number ⌝ }
 {
     let elements = s.elements;
-    Reading {
+    Progress {
         line: s.line + 1,
         element: s.element + 1,
         place: Place::Start,
@@ -106,8 +108,8 @@ fn next_element(s: Reading, number: Number) -> Reading
     }
 }
 
-fn ended(s: Reading) -> Reading
-    requires { ⌜ Sound 65_534 s ⌝ }
+fn ended(s: Progress) -> Progress
+    requires { ⌜ Consistent 65_534 s ⌝ }
     ensures { λ r. ⌜ r ≡ ended (s .place) s ⌝ }
 {
     let place = s.place;
@@ -126,8 +128,8 @@ fn ended(s: Reading) -> Reading
     }
 }
 
-fn step(s: Reading, byte: u8) -> Reading
-    requires { ⌜ Sound 65_534 s ⌝ }
+fn step(s: Progress, byte: u8) -> Progress
+    requires { ⌜ Consistent 65_534 s ⌝ }
     ensures { λ r. ⌜ r ≡ step s byte ⌝ }
 {
     if byte == b'\n' {
@@ -137,7 +139,7 @@ fn step(s: Reading, byte: u8) -> Reading
     at(s, line::within(place, s.element, byte))
 }
 
-fn finished(s: Reading) -> Parsed
+fn finished(s: Progress) -> Parsed
     ensures { λ r. ⌜ r ≡ concluded (s .place) s ⌝ }
 {
     let place = s.place;

@@ -5,9 +5,9 @@ use crate::number;
 use crate::number::Number;
 ghost use mathlib.Core.Path.{_≡_};
 ghost use Prim.Native.Nat.{_≤_};
-ghost use Rattle.elements_file.specs.Names.{Within};
+ghost use Rattle.elements_file.specs.Contract.{NameAt, Fitting};
 ghost use Rattle.elements_file.specs.Numbers.{grown};
-ghost use Rattle.elements_file.specs.Lines.{refused, named, counted, valued, begun, within, Fitting};
+ghost use Rattle.elements_file.specs.Lines.{refused, named, counted, valued, begun, within};
 
 // What a line holds so far: nothing, the beginning of a comment, that many bytes of the name that is due,
 // the name, its space and a beginning of a number, or a fault.
@@ -29,7 +29,7 @@ fn refused(byte: u8, fault: Fault) -> Place
 }
 
 fn named(element: u32, k: usize, byte: u8) -> Place
-    requires { ⌜ Within element k ⌝ }
+    requires { ⌜ NameAt element k ⌝ }
     ensures { λ r. ⌜ r ≡ named element k byte ⌝ }
 {
     if byte != name::byte(element, k) {

@@ -1,6 +1,7 @@
 // The names of the elements.
 ghost use mathlib.Core.Path.{_≡_};
-ghost use Rattle.elements_file.specs.Names.{Within, nameByte};
+ghost use Rattle.elements_file.specs.Contract.{NameAt};
+ghost use Rattle.elements_file.specs.Names.{nameByte};
 
 // A row of 20 bytes for each element, in the order of the file.
 const NAMES: [u8; 220] = *b"\
@@ -18,7 +19,7 @@ const NAMES: [u8; 220] = *b"\
 
 // Byte k of the row of an element. The reader has an element that is due by then, and k counts its bytes.
 pub fn byte(element: u32, k: usize) -> u8
-    requires { ⌜ Within element k ⌝ }
+    requires { ⌜ NameAt element k ⌝ }
     ensures { λ r. ⌜ r ≡ nameByte element k ⌝ }
 {
     let at = 20 * (element as usize) + k;

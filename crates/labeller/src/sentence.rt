@@ -44,16 +44,19 @@ pub fn refused(refusal: Refusal, place: u32) {
 
 // The name of an element.
 fn say_name(element: u32) {
-    if 10 < element {
-        return;
-    }
-    let mut k = 0;
-    while k < 20 {
-        let byte = elements_file::name::byte(element, k);
-        if byte != b' ' {
-            say(&[byte]);
-        }
-        k += 1;
+    match element {
+        0 => say(b"eccentricity"),
+        1 => say(b"semi_major_axis"),
+        2 => say(b"inclination"),
+        3 => say(b"node"),
+        4 => say(b"argument_of_perigee"),
+        5 => say(b"mean_anomaly"),
+        6 => say(b"mean_motion"),
+        7 => say(b"node_rate"),
+        8 => say(b"perigee_rate"),
+        9 => say(b"epoch_revolution"),
+        10 => say(b"epoch"),
+        _ => {}
     }
 }
 

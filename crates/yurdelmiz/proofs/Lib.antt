@@ -1,5 +1,6 @@
-pub mod Narrow
-pub mod Fields
+pub mod Stores
 pub mod Endings
 pub mod Placed
 pub mod Days
+pub mod Elements
+pub mod AcceptedCalls

@@ -1,5 +1,5 @@
 -- What holds of a position that was given. Assumes nothing.
-use mathlib.Core.Path.{_≡_, refl, _∙_}
+use mathlib.Core.Path.{_≡_}
 use mathlib.Core.Bool.{true}
 use Prim.Native.Nat.{ℕ, _+_, _*_, _^_, _≤_, _<_}
 use native.Mathlib.Nat.{mul-le-mul}
@@ -13,13 +13,10 @@ use Rattle.time.specs.Range.{inRange}
 use Rattle.orbit.specs.declared.State.{State}
 use Rattle.orbit.specs.declared.Placement.the-variants.{Placed}
 use Rattle.orbit.specs.declared.elements.Elements.{Elements}
-use Rattle.orbit.specs.declared.elements.Verdict.{Verdict}
-use Rattle.orbit.specs.declared.elements.Verdict.the-variants as verdict
 use Rattle.orbit.specs.Ellipse.{Between}
 use Rattle.orbit.specs.Placement.{placement}
-use Rattle.orbit.specs.Time.{checkedAt}
 use Rattle.orbit.proofs.Accepted.{accepted-at}
-use Rattle.orbit.proofs.Placements.{placement-refused}
+use Rattle.orbit.proofs.Placements.{placed-passed}
 
 below : (a e : ℕ) (r : ℤ) → a ≤ 100_000_000 → e ≤ 9_000_000 → Between a e r → natAbs r < 2 ^ 32
 below a e (pos n) ha he h =
@@ -29,22 +26,13 @@ below a e (pos n) ha he h =
 below a e (negsuc n) ha he h = absurd (h .perigee .le)
 
 module _ (el : Elements) (t : ℤ) (s : State) (given : placement el t ≡ Placed s) where
-  pub passed : checkedAt el t ≡ verdict.Passed
-  passed = by (checkedAt el t) refl
-    where
-      by : (v : Verdict) → checkedAt el t ≡ v → checkedAt el t ≡ verdict.Passed
-      by verdict.Passed e = e
-      by (verdict.Refused r) e =
-          let p = placement-refused el t r e ∙ given in
-          let z : _≡_ {A = ℕ} 0 1 = cc in absurd (omega arith)
-
   pub time-in-range : inRange t ≡ true
-  time-in-range = accepted-at el t passed .in-range
+  time-in-range = accepted-at el t (placed-passed el t given) .in-range
 
   -- no apogee is beyond 190,000 km
   pub radius-small : Between (el .«semi_major_axis») (el .eccentricity) (s .radius) → natAbs (s .radius) < 2 ^ 32
   radius-small h =
-      let a = accepted-at el t passed .elements in
+      let a = accepted-at el t (placed-passed el t given) .elements in
       below _ _ (s .radius) (a .axis-le) (a .eccentricity-le) h
 
 -- the bounds of a celestial position let it be turned

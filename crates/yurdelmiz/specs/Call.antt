@@ -1,7 +1,7 @@
 -- How a call of the C interface ends: include/yurdelmiz.h, "Status". Assumes nothing.
 use Prim.Native.Nat.{ℕ, _+_, _*_, _^_}
 use mathlib.Core.Bool.{Bool, true, false}
-use mathlib.Core.List.{List, [], _++_, _∷_}
+use mathlib.Core.List.{List}
 
 -- the status returned, and the bytes of the buffer `answer`, in labelling `output`, afterwards
 pub record Call : Type 0 where
@@ -26,8 +26,3 @@ callOf lengths outcome buffer =
 -- the status of a refusal that has a place: the number in the lower half, the place in the upper
 abbrev pub statusAt : ℕ → ℕ → ℕ
 statusAt number place = number + 2 ^ 32 * place
-
--- fields one after another
-abbrev pub fields : List (List ℕ) → List ℕ
-fields [] = []
-fields (f ∷ fs) = f ++ fields fs

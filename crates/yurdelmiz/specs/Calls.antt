@@ -22,14 +22,18 @@ use Rattle.orbit.specs.declared.Placement.the-variants as placement
 use Rattle.eclipse.specs.Shade.{shadeCode, shadeAnswer}
 use Rattle.eclipse.specs.declared.ShadeAnswer.{ShadeAnswer}
 use Rattle.eclipse.specs.declared.ShadeAnswer.the-variants as shade
+use Rattle.elements_file.specs.Reading.{parsed}
+use Rattle.elements_file.specs.declared.Parsed.{Parsed}
+use Rattle.elements_file.specs.declared.Parsed.the-variants as parsed
 use Rattle.label_file.specs.Reading.{bufferReading}
 use Rattle.label_file.specs.declared.FileReading.{FileReading}
 use Rattle.label_file.specs.declared.FileReading.the-variants as reading
 use Rattle.labelling.specs.Day.{labelling, outputAfter}
 use Rattle.labelling.specs.declared.Labelling.{Labelling}
 use Rattle.labelling.specs.declared.Labelling.the-variants as labelling
-use Rattle.yurdelmiz.specs.Answers.{anomalyBytes, sunBytes, stateBytes, countsBytes}
+use Rattle.yurdelmiz.specs.Answers.{anomalyBytes, sunBytes, stateBytes, elementsBytes, countsBytes}
 use Rattle.yurdelmiz.specs.Buffers.{elementsOf}
+use Rattle.yurdelmiz.specs.Faults.{faultNumber, faultPlace}
 use Rattle.yurdelmiz.specs.Call.{Call, Outcome, refused, given, callOf, statusAt}
 
 -- ---- yurdelmiz_kepler
@@ -68,6 +72,14 @@ shadeOutcome (shade.Shaded s) = given (shadeCode s ∷ [])
 
 unfoldable pub shadeCall : Position → Direction → List ℕ → Call
 shadeCall p sun buffer = callOf (eqb (length buffer) 1) (shadeOutcome (shadeAnswer p sun)) buffer
+
+-- ---- yurdelmiz_elements
+abbrev pub elementsOutcome : Parsed → Outcome
+elementsOutcome (parsed.Malformed line element fault) = refused (statusAt (faultNumber fault) (faultPlace line element))
+elementsOutcome (parsed.Whole el) = given (elementsBytes el)
+
+unfoldable pub elementsCall : List ℕ → List ℕ → Call
+elementsCall text buffer = callOf (eqb (length buffer) 48) (elementsOutcome (parsed text)) buffer
 
 -- ---- yurdelmiz_label
 abbrev pub labelOutcome : Labelling → List ℕ → Outcome

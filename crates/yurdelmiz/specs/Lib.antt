@@ -1,4 +1,5 @@
 pub mod Buffers
 pub mod Answers
+pub mod Faults
 pub mod Call
 pub mod Calls

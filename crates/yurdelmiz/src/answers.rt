@@ -1,49 +1,68 @@
 // The bytes of answers, in the order of include/yurdelmiz.h. A function that fills a buffer is called once
 // its length is found to be the header's.
 ghost use mathlib.Core.Path.{_≡_};
-ghost use Prim.Native.Nat.{_+_, _^_, _≤_, _<_};
+ghost use Prim.Native.Nat.{_+_, _*_, _^_, _≤_, _<_};
 ghost use lib.IntN.{natAbs};
 ghost use lib.ListN.{length};
 ghost use lib.Seq.{sets};
+ghost use mir.Syntax.{w32};
+ghost use mir.Val.{ofZ};
+ghost use Rattle.integer.specs.Bound.{Within};
 ghost use Rattle.sun.specs.Contract.{WithinOne};
-ghost use Rattle.yurdelmiz.specs.Answers.{anomalyBytes, directionBytes, sunBytes, positionBytes, stateBytes, countsBytes};
+ghost use Rattle.yurdelmiz.specs.Answers.{words, anomalyBytes, sunBytes, positionBytes, stateBytes, elementsBytes, countsBytes};
 ghost use Rattle.yurdelmiz.specs.Call.{statusAt};
-ghost use Rattle.refusal.specs.Numbers.{numberOf};
+ghost use Rattle.yurdelmiz.specs.Faults.{faultNumber, faultPlace};
+use elements_file::Fault;
 use kepler::Anomaly;
 use label_file::Counts;
 use orbit::State;
+use orbit::elements::Elements;
 use position::Position;
-use refusal::Refusal;
-use sun::Direction;
 use sun::Sun;
 
-pub fn write_anomaly(answer: &mut [u8], at: usize, anomaly: Anomaly)
-    requires { ⌜ at + 8 ≤ length (now answer) ⌝ }
-    ensures { λ _. ⌜ now (answer .exit) ≡ sets (now (answer .entry)) at (anomalyBytes anomaly) ⌝ }
+// Numbers of four bytes one after another.
+fn write_words(answer: &mut [u8], at: usize, numbers: &[u32])
+    requires { ⌜ at + 4 * length (now numbers) ≤ length (now answer) ⌝ }
+    ensures { λ _. ⌜ now (answer .exit) ≡ sets (now (answer .entry)) at (words (now (numbers .entry))) ⌝ }
 {
-    endian::write_u32(answer, at, anomaly.angle);
-    endian::write_u32(answer, at + 4, anomaly.halvings);
+    let mut i = 0;
+    while i < numbers.len() {
+        endian::write_u32(answer, at + 4 * i, numbers[i]);
+        i += 1;
+    }
+}
+
+pub fn write_anomaly(answer: &mut [u8], anomaly: Anomaly)
+    requires { ⌜ length (now answer) ≡ 8 ⌝ }
+    ensures { λ _. ⌜ now (answer .exit) ≡ anomalyBytes anomaly ⌝ }
+{
+    let numbers = [anomaly.angle, anomaly.halvings];
+    write_words(answer, 0, &numbers);
 }
 
 // A direction's components are within the range of 32 bits.
-fn write_direction(answer: &mut [u8], at: usize, direction: Direction)
-    requires { ⌜ (at + 12 ≤ length (now answer)) × WithinOne direction ⌝ }
-    ensures { λ _. ⌜ now (answer .exit) ≡ sets (now (answer .entry)) at (directionBytes direction) ⌝ }
+fn component_bits(component: i64) -> u32
+    requires { ⌜ Within (2 ^ 30) component ⌝ }
+    ensures { λ r. ⌜ r ≡ ofZ w32 component ⌝ }
 {
-    endian::write_i32(answer, at, direction.x as i32);
-    endian::write_i32(answer, at + 4, direction.y as i32);
-    endian::write_i32(answer, at + 8, direction.z as i32);
+    integer::bits_of_i32(component as i32)
 }
 
 pub fn write_sun(answer: &mut [u8], sun: Sun)
     requires { ⌜ (length (now answer) ≡ 28) × WithinOne (sun .direction) ⌝ }
     ensures { λ _. ⌜ now (answer .exit) ≡ sunBytes sun ⌝ }
 {
-    endian::write_u32(answer, 0, sun.mean_anomaly);
-    endian::write_u32(answer, 4, sun.mean_longitude);
-    endian::write_u32(answer, 8, sun.true_longitude);
-    endian::write_u32(answer, 12, sun.greenwich_hour_angle);
-    write_direction(answer, 16, sun.direction);
+    let direction = sun.direction;
+    let numbers = [
+        sun.mean_anomaly,
+        sun.mean_longitude,
+        sun.true_longitude,
+        sun.greenwich_hour_angle,
+        component_bits(direction.x),
+        component_bits(direction.y),
+        component_bits(direction.z),
+    ];
+    write_words(answer, 0, &numbers);
 }
 
 fn write_position(answer: &mut [u8], at: usize, position: Position)
@@ -60,26 +79,74 @@ pub fn write_state(answer: &mut [u8], state: State, earth_fixed: Position)
     requires { ⌜ (length (now answer) ≡ 68) × (natAbs (state .radius) < 2 ^ 32) ⌝ }
     ensures { λ _. ⌜ now (answer .exit) ≡ stateBytes state «earth_fixed» ⌝ }
 {
-    endian::write_i32(answer, 0, state.revolution);
-    write_anomaly(answer, 4, state.anomaly);
-    endian::write_u32(answer, 12, integer::magnitude(state.radius) as u32);
+    let anomaly = state.anomaly;
+    let numbers = [
+        integer::bits_of_i32(state.revolution),
+        anomaly.angle,
+        anomaly.halvings,
+        integer::magnitude(state.radius) as u32,
+    ];
+    write_words(answer, 0, &numbers);
     write_position(answer, 16, state.position);
     endian::write_u32(answer, 40, state.node);
     write_position(answer, 44, earth_fixed);
+}
+
+pub fn write_elements(answer: &mut [u8], elements: Elements)
+    requires { ⌜ length (now answer) ≡ 48 ⌝ }
+    ensures { λ _. ⌜ now (answer .exit) ≡ elementsBytes elements ⌝ }
+{
+    let numbers = [
+        elements.eccentricity,
+        elements.semi_major_axis,
+        elements.inclination,
+        elements.node,
+        elements.argument_of_perigee,
+        elements.mean_anomaly,
+        elements.mean_motion,
+        integer::bits_of_i32(elements.node_rate),
+        integer::bits_of_i32(elements.perigee_rate),
+        elements.epoch_revolution,
+    ];
+    endian::write_i64(answer, 0, elements.epoch);
+    write_words(answer, 8, &numbers);
 }
 
 pub fn write_counts(answer: &mut [u8], counts: Counts)
     requires { ⌜ length (now answer) ≡ 12 ⌝ }
     ensures { λ _. ⌜ now (answer .exit) ≡ countsBytes counts ⌝ }
 {
-    endian::write_u32(answer, 0, counts.labels);
-    endian::write_u32(answer, 4, counts.training);
-    endian::write_u32(answer, 8, counts.test);
+    let numbers = [counts.labels, counts.training, counts.test];
+    write_words(answer, 0, &numbers);
 }
 
-// A refusal's number, and its place above it.
-pub fn status_at(refusal: Refusal, place: u32) -> u64
-    ensures { λ r. ⌜ r ≡ statusAt (numberOf refusal) place ⌝ }
+pub fn fault_number(fault: Fault) -> u32
+    ensures { λ r. ⌜ r ≡ faultNumber fault ⌝ }
 {
-    refusal.number() as u64 + 0x1_0000_0000 * (place as u64)
+    match fault {
+        Fault::Name => 101,
+        Fault::Extra => 102,
+        Fault::ControlByte => 103,
+        Fault::DecimalPoint => 104,
+        Fault::NotWhole => 105,
+        Fault::TooLarge => 106,
+        Fault::Unended => 107,
+        Fault::Missing => 108,
+        Fault::TooLong => 109,
+    }
+}
+
+// A file of 65,535 bytes has at most 65,536 lines, and 11 elements.
+pub fn fault_place(line: usize, element: u32) -> u32
+    requires { ⌜ (line ≤ 65_536) × (element ≤ 11) ⌝ }
+    ensures { λ r. ⌜ r ≡ faultPlace line element ⌝ }
+{
+    line as u32 + 0x100_0000 * element
+}
+
+// A number, and a place above it.
+pub fn status_at(number: u32, place: u32) -> u64
+    ensures { λ r. ⌜ r ≡ statusAt number place ⌝ }
+{
+    number as u64 + 0x1_0000_0000 * (place as u64)
 }

@@ -2,8 +2,9 @@
 ghost use mathlib.Core.Path.{_≡_};
 ghost use Rattle.trig.specs.Contract.{CosineAt};
 ghost use Rattle.trig.specs.ExactSine.{SineAt};
-ghost use Rattle.yurdelmiz.specs.Calls.{keplerCall, sunCall, positionCall, shadeCall, labelCall, readCall};
+ghost use Rattle.yurdelmiz.specs.Calls.{keplerCall, sunCall, positionCall, shadeCall, elementsCall, labelCall, readCall};
 use eclipse::ShadeAnswer;
+use elements_file::Parsed;
 use kepler::Solution;
 use label_file::FileReading;
 use labelling::Labelling;
@@ -43,7 +44,7 @@ pub extern "C" fn yurdelmiz_kepler(eccentricity: u32, mean_anomaly: u32, answer:
     match solution {
         Solution::Refused(refusal) => refusal.number(),
         Solution::Solved(anomaly) => {
-            answers::write_anomaly(answer, 0, anomaly);
+            answers::write_anomaly(answer, anomaly);
             0
         }
     }
@@ -121,6 +122,26 @@ pub extern "C" fn yurdelmiz_shade(
 }
 
 #[no_mangle]
+pub extern "C" fn yurdelmiz_elements(text: &[u8], answer: &mut [u8]) -> u64
+    ensures { λ r. ⌜ record { status = r; answer = now (answer .exit) } ≡ elementsCall (now (text .entry)) (now (answer .entry)) ⌝ }
+{
+    if answer.len() != 48 {
+        return BAD_BUFFER as u64;
+    }
+    let parsed = elements_file::parse(text);
+    match parsed {
+        Parsed::Malformed(line, element, fault) => {
+            let number = answers::fault_number(fault);
+            answers::status_at(number, answers::fault_place(line, element))
+        }
+        Parsed::Whole(elements) => {
+            answers::write_elements(answer, elements);
+            0
+        }
+    }
+}
+
+#[no_mangle]
 pub extern "C" fn yurdelmiz_label(elements: &[u8], telemetry: &[u8], output: &mut [u8]) -> u64
     ensures { λ r. ⌜ record { status = r; answer = now (output .exit) } ≡ labelCall (now (elements .entry)) (now (telemetry .entry)) (now (output .entry)) ⌝ }
 {
@@ -129,21 +150,21 @@ pub extern "C" fn yurdelmiz_label(elements: &[u8], telemetry: &[u8], output: &mu
     }
     let labelled = labelling::label_day(buffers::read_elements(elements), telemetry, output);
     match labelled {
-        Labelling::Refused(refusal, place) => answers::status_at(refusal, place),
+        Labelling::Refused(refusal, place) => answers::status_at(refusal.number(), place),
         Labelling::Labelled(_) => 0,
     }
 }
 
 #[no_mangle]
-pub extern "C" fn yurdelmiz_read(file: &[u8], length: usize, answer: &mut [u8]) -> u64
-    ensures { λ r. ⌜ record { status = r; answer = now (answer .exit) } ≡ readCall (now (file .entry)) length (now (answer .entry)) ⌝ }
+pub extern "C" fn yurdelmiz_read(file: &[u8], size: usize, answer: &mut [u8]) -> u64
+    ensures { λ r. ⌜ record { status = r; answer = now (answer .exit) } ≡ readCall (now (file .entry)) size (now (answer .entry)) ⌝ }
 {
     if answer.len() != 12 {
         return BAD_BUFFER as u64;
     }
-    let reading = label_file::read(file, length);
+    let reading = label_file::read(file, size);
     match reading {
-        FileReading::Refused(refusal, place) => answers::status_at(refusal, place),
+        FileReading::Refused(refusal, place) => answers::status_at(refusal.number(), place),
         FileReading::Accepted(counts) => {
             answers::write_counts(answer, counts);
             0

@@ -3,6 +3,17 @@
 /// Status of a call whose `elements` or `answer` has a wrong length.
 pub const BAD_BUFFER: u32 = 255;
 
+/// Statuses of the faults of an elements file, from `yurdelmiz_elements`.
+pub const MALFORMED_NAME: u32 = 101;
+pub const MALFORMED_EXTRA: u32 = 102;
+pub const MALFORMED_CONTROL_BYTE: u32 = 103;
+pub const MALFORMED_DECIMAL_POINT: u32 = 104;
+pub const MALFORMED_NOT_WHOLE: u32 = 105;
+pub const MALFORMED_TOO_LARGE: u32 = 106;
+pub const MALFORMED_UNENDED: u32 = 107;
+pub const MALFORMED_MISSING: u32 = 108;
+pub const MALFORMED_TOO_LONG: u32 = 109;
+
 pub const ELEMENTS_BYTES: usize = 48;
 pub const KEPLER_BYTES: usize = 8;
 pub const SUN_BYTES: usize = 28;
@@ -43,6 +54,13 @@ extern "C" {
         answer_len: usize,
     ) -> u32;
 
+    pub fn yurdelmiz_elements(
+        text: *const u8,
+        text_len: usize,
+        answer: *mut u8,
+        answer_len: usize,
+    ) -> u64;
+
     pub fn yurdelmiz_label(
         elements: *const u8,
         elements_len: usize,
@@ -55,7 +73,7 @@ extern "C" {
     pub fn yurdelmiz_read(
         file: *const u8,
         file_len: usize,
-        length: usize,
+        size: usize,
         answer: *mut u8,
         answer_len: usize,
     ) -> u64;

@@ -7,38 +7,11 @@ use Rattle.elements_file.specs.Reading.{ended}
 use Rattle.elements_file.proofs.ended.Statement.{statement}
 use Rattle.elements_file.proofs.ended.Tie as tie
 
-enum-told : tie.Need-enum-told
-enum-told c = search needs
-
-next-line-requires : tie.Need-next-line-requires
-next-line-requires c κs = search needs
-
-enum-told-2 : tie.Need-enum-told-2
-enum-told-2 c = search needs
-
-next-line-requires-2 : tie.Need-next-line-requires-2
-next-line-requires-2 c κs = search needs
-
-enum-told-3 : tie.Need-enum-told-3
-enum-told-3 c = search needs
-
-at-requires : tie.Need-at-requires
-at-requires c κs = search needs
-
-enum-known-place : tie.Need-enum-known-place
-enum-known-place c = search needs
-
 next-element-requires : tie.Need-next-element-requires
 next-element-requires c κs =
     let s = c .before .before .before .before in
     let f = rw (c .before .before .place .given .1) at (s .pre .place) in
     record { line = omega arith; element = f .0; held = f .1 }
-
-at-requires-2 : tie.Need-at-requires-2
-at-requires-2 c κs = search needs
-
-enum-told-4 : tie.Need-enum-told-4
-enum-told-4 c = search needs
 
 returns : tie.Need-returns
 unfolding ended
@@ -68,16 +41,16 @@ pub ended-spec : {M : Type 1} → statement M
 ended-spec =
     tie.close
     (tie.spec
-    enum-told
-    next-line-requires
-    enum-told-2
-    next-line-requires-2
-    enum-told-3
-    at-requires
-    enum-known-place
+    (λ c. search needs)
+    (λ c κs. search needs)
+    (λ c. search needs)
+    (λ c κs. search needs)
+    (λ c. search needs)
+    (λ c κs. search needs)
+    (λ c. search needs)
     next-element-requires
-    at-requires-2
-    enum-told-4
+    (λ c κs. search needs)
+    (λ c. search needs)
     returns
     returns-2
     returns-3

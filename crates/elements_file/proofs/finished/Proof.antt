@@ -5,21 +5,6 @@ use Rattle.elements_file.specs.Reading.{concluded}
 use Rattle.elements_file.proofs.finished.Statement.{statement}
 use Rattle.elements_file.proofs.finished.Tie as tie
 
-enum-told : tie.Need-enum-told
-enum-told c = search needs
-
-enum-known-place : tie.Need-enum-known-place
-enum-known-place c = search needs
-
-enum-told-2 : tie.Need-enum-told-2
-enum-told-2 c = search needs
-
-enum-told-3 : tie.Need-enum-told-3
-enum-told-3 c = search needs
-
-enum-told-4 : tie.Need-enum-told-4
-enum-told-4 c = search needs
-
 returns : tie.Need-returns
 unfolding concluded
 returns c = rw (c .before .before .before .enum-told .given .1, eq-eqb _ _ (c .before .if1 .taken))
@@ -48,11 +33,11 @@ pub finished-spec : {M : Type 1} → statement M
 finished-spec =
     tie.close
     (tie.spec
-    enum-told
-    enum-known-place
-    enum-told-2
-    enum-told-3
-    enum-told-4
+    (λ c. search needs)
+    (λ c. search needs)
+    (λ c. search needs)
+    (λ c. search needs)
+    (λ c. search needs)
     returns
     returns-2
     returns-3

@@ -5,19 +5,10 @@ use Rattle.elements_file.specs.declared.line.Place.the-variants.{Start}
 use Rattle.elements_file.proofs.next_element.Statement.{statement}
 use Rattle.elements_file.proofs.next_element.Tie as tie
 
-add-t4 : tie.Need-add-t4
-add-t4 c = search needs
-
-add-t5 : tie.Need-add-t5
-add-t5 c = search needs
-
-stored-requires : tie.Need-stored-requires
-stored-requires c κs = search needs
-
 returns : tie.Need-returns
 returns c =
     let s = c .before .before .before .before .args .s in
     λ i. record { line = s .line + 1; element = s .element + 1; place = Start; elements = (c .stored .ensures) i }
 
 pub next-element-spec : {M : Type 1} → statement M
-next-element-spec = tie.close (tie.spec add-t4 add-t5 stored-requires returns)
+next-element-spec = tie.close (tie.spec (λ c. search needs) (λ c. search needs) (λ c κs. search needs) returns)

@@ -5,14 +5,15 @@ use native.Mathlib.Omega.{arith}
 use borrow.Author.Needs.{needs}
 use borrow.Author.Tests.{lt-ltb, le-ltb}
 use lib.ListN.{length, drop}
-use Rattle.elements_file.specs.Reading.{Sound, start, step, afterBytes, finished, parsed}
-use Rattle.elements_file.proofs.Soundness.{start-sound, step-sound}
+use Rattle.elements_file.specs.Reading.{start, step, afterBytes, finished, parsed}
+use Rattle.elements_file.specs.Contract.{Consistent}
+use Rattle.elements_file.proofs.Consistency.{start-consistent, step-consistent}
 use Rattle.elements_file.proofs.Bytewise.{byte-read, all-read}
 use Rattle.elements_file.proofs.parse.Statement.{statement}
 use Rattle.elements_file.proofs.parse.Tie as tie
 
 abbrev Inv-loop : tie.InvT-loop
-Inv-loop text s₀ i₀ s i = (i ≤ length text) × Sound i s × (afterBytes s (drop i text) ≡ afterBytes start text)
+Inv-loop text s₀ i₀ s i = (i ≤ length text) × Consistent i s × (afterBytes s (drop i text) ≡ afterBytes start text)
 
 abbrev μ-loop : tie.MeasureT-loop
 μ-loop text s₀ i₀ s i = length text - i
@@ -21,11 +22,8 @@ returns : tie.Need-returns Inv-loop μ-loop
 unfolding parsed
 returns c = rw (lt-ltb _ _ (c .if1 .taken))
 
-start-requires : tie.Need-start-requires Inv-loop μ-loop
-start-requires c κs = search needs
-
 loop-holds : tie.Need-loop-holds Inv-loop μ-loop
-loop-holds c = (omega arith, rw (c .start .ensures) start-sound, rw (c .start .ensures))
+loop-holds c = (omega arith, rw (c .start .ensures) start-consistent, rw (c .start .ensures))
 
 shared-slice-read-step : tie.Need-shared-slice-read-step Inv-loop μ-loop
 shared-slice-read-step c = omega arith
@@ -33,7 +31,7 @@ shared-slice-read-step c = omega arith
 step-requires : tie.Need-step-requires Inv-loop μ-loop
 step-requires c κs =
     let l = c .before .before .loop in
-    record { line = omega (arith, l .inv .1 .line); element = l .inv .1 .element; place = l .inv .1 .place }
+    record { line = omega (arith, l .inv .1 .line); element = l .inv .1 .element; place = l .inv .1 .place; elements = l .inv .1 .elements }
 
 add-i : tie.Need-add-i Inv-loop μ-loop
 add-i c = omega arith
@@ -46,10 +44,7 @@ loop-again c =
     let l = c .before .before .before .loop in
     let text = c .before .before .before .before .before .before .before .args .text .now in
     let e = c .step .ensures in
-    (omega arith, rw e (step-sound (l .i) (l .s) _ (l .inv .1)), rw e (byte-read (l .s) text (l .i) (omega arith) ∙ l .inv .2))
-
-finished-requires : tie.Need-finished-requires Inv-loop μ-loop
-finished-requires c κs = search needs
+    (omega arith, rw e (step-consistent (l .i) (l .s) _ (l .inv .1)), rw e (byte-read (l .s) text (l .i) (omega arith) ∙ l .inv .2))
 
 returns-2 : tie.Need-returns-2 Inv-loop μ-loop
 unfolding parsed
@@ -66,12 +61,12 @@ parse-spec =
     Inv-loop
     μ-loop
     returns
-    start-requires
+    (λ c κs. search needs)
     loop-holds
     shared-slice-read-step
     step-requires
     add-i
     loop-less
     loop-again
-    finished-requires
+    (λ c κs. search needs)
     returns-2)

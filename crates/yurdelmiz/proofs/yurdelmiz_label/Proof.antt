@@ -10,9 +10,6 @@ use borrow.Author.Needs.{needs}
 use Rattle.yurdelmiz.proofs.yurdelmiz_label.Statement.{statement}
 use Rattle.yurdelmiz.proofs.yurdelmiz_label.Tie as tie
 
-cast-result : tie.Need-cast-result
-cast-result c = search needs
-
 day-is : (c : tie.After-label-day) → let a = c .before .before .before .before .before .before .before .args in
     LabelledDay (elementsOf (now (a .elements))) (now (a .telemetry)) (now (a .output)) (c .label-day .last .1 .1 .0) (c .label-day .result)
 day-is c = rw (c .before .before .read-elements .ensures) at (c .label-day .ensures)
@@ -21,34 +18,13 @@ returns : tie.Need-returns
 unfolding labelCall
 returns c = bad-buffer _ _ _ (ne-eqb _ 48 (c .if1 .taken))
 
-read-elements-requires : tie.Need-read-elements-requires
-read-elements-requires c κs = search needs
-
-label-day-requires : tie.Need-label-day-requires
-label-day-requires c κs = search needs
-
-enum-known-labelled : tie.Need-enum-known-labelled
-enum-known-labelled c = search needs
-
-status-at-requires : tie.Need-status-at-requires
-status-at-requires c κs = search needs
-
-enum-told : tie.Need-enum-told
-enum-told c = search needs
-
-same-length : tie.Need-same-length
-same-length c = search needs
-
 returns-2 : tie.Need-returns-2
 unfolding labelCall
 returns-2 c =
-    let d = c .before .before .before .before .before .before in
+    let d = c .before .before .before .before .before .before .before in
     let l = day-is d in
-    let r = c .before .before .labelled .given .1 in
-    rw (unchanged l r) (ends-refused _ _ _ (c .status-at .ensures) (eq-eqb _ 48 (d .before .before .before .if1 .left)) (day-refused l r))
-
-same-length-2 : tie.Need-same-length-2
-same-length-2 c = search needs
+    let r = c .before .before .before .labelled .given .1 in
+    rw (unchanged l r) (ends-refused _ _ _ (rw (c .before .number .ensures) at (c .status-at .ensures)) (eq-eqb _ 48 (d .before .before .before .if1 .left)) (day-refused l r))
 
 returns-3 : tie.Need-returns-3
 unfolding labelCall
@@ -61,14 +37,15 @@ pub yurdelmiz-label-spec : {M : Type 1} → statement M
 yurdelmiz-label-spec =
     tie.close
     (tie.spec
-    cast-result
+    (λ c. search needs)
     returns
-    read-elements-requires
-    label-day-requires
-    enum-known-labelled
-    status-at-requires
-    enum-told
-    same-length
+    (λ c κs. search needs)
+    (λ c κs. search needs)
+    (λ c. search needs)
+    (λ c κs. search needs)
+    (λ c κs. search needs)
+    (λ c. search needs)
+    (λ c. search needs)
     returns-2
-    same-length-2
+    (λ c. search needs)
     returns-3)

@@ -72,21 +72,6 @@ unfolding positionCall
 returns-2 c =
     bad-buffer _ _ _ (sym (and-yes _ _ (eq-eqb _ 48 (c .before .if1 .left))) ∙ ne-eqb _ 68 (c .if2 .taken))
 
-read-elements-requires : tie.Need-read-elements-requires
-read-elements-requires c κs = search needs
-
-position-requires : tie.Need-position-requires
-position-requires c κs = search needs
-
-enum-known-placement : tie.Need-enum-known-placement
-enum-known-placement c = search needs
-
-number-requires : tie.Need-number-requires
-number-requires c κs = search needs
-
-enum-known-placement-2 : tie.Need-enum-known-placement-2
-enum-known-placement-2 c = search needs
-
 sun-at-requires : tie.Need-sun-at-requires
 sun-at-requires c κs =
     let d = c .before in
@@ -111,9 +96,6 @@ returns-3 c =
     let p = c .before .before .before .before in
     ends-refused _ _ _ (c .number .ensures) (lengths p) (outcome-is p (c .before .before .placement .given .1))
 
-same-length : tie.Need-same-length
-same-length c = search needs
-
 returns-4 : tie.Need-returns-4
 unfolding positionCall
 returns-4 c =
@@ -129,14 +111,14 @@ yurdelmiz-position-spec =
     (tie.spec
     returns
     returns-2
-    read-elements-requires
-    position-requires
-    enum-known-placement
-    number-requires
-    enum-known-placement-2
+    (λ c κs. search needs)
+    (λ c κs. search needs)
+    (λ c. search needs)
+    (λ c κs. search needs)
+    (λ c. search needs)
     sun-at-requires
     earth-fixed-requires
     write-state-requires
     returns-3
-    same-length
+    (λ c. search needs)
     returns-4)

@@ -7,36 +7,15 @@ use borrow.Author.Needs.{needs}
 use Rattle.yurdelmiz.proofs.yurdelmiz_read.Statement.{statement}
 use Rattle.yurdelmiz.proofs.yurdelmiz_read.Tie as tie
 
-cast-result : tie.Need-cast-result
-cast-result c = search needs
-
 returns : tie.Need-returns
 unfolding readCall
 returns c = bad-buffer _ _ _ (ne-eqb _ 12 (c .if1 .taken))
 
-read-requires : tie.Need-read-requires
-read-requires c κs = search needs
-
-enum-known-reading : tie.Need-enum-known-reading
-enum-known-reading c = search needs
-
-status-at-requires : tie.Need-status-at-requires
-status-at-requires c κs = search needs
-
-enum-known-reading-2 : tie.Need-enum-known-reading-2
-enum-known-reading-2 c = search needs
-
-write-counts-requires : tie.Need-write-counts-requires
-write-counts-requires c κs = search needs
-
 returns-2 : tie.Need-returns-2
 unfolding readCall
 returns-2 c =
-    let r = c .before .before .before .before in
-    ends-refused _ _ _ (c .status-at .ensures) (eq-eqb _ 12 (r .before .if1 .left)) (ap countsOutcome (sym (r .read .ensures) ∙ c .before .before .reading .given .1))
-
-same-length : tie.Need-same-length
-same-length c = search needs
+    let r = c .before .before .before .before .before in
+    ends-refused _ _ _ (rw (c .before .number .ensures) at (c .status-at .ensures)) (eq-eqb _ 12 (r .before .if1 .left)) (ap countsOutcome (sym (r .read .ensures) ∙ c .before .before .before .reading .given .1))
 
 returns-3 : tie.Need-returns-3
 unfolding readCall
@@ -49,13 +28,14 @@ pub yurdelmiz-read-spec : {M : Type 1} → statement M
 yurdelmiz-read-spec =
     tie.close
     (tie.spec
-    cast-result
+    (λ c. search needs)
     returns
-    read-requires
-    enum-known-reading
-    status-at-requires
-    enum-known-reading-2
-    write-counts-requires
+    (λ c κs. search needs)
+    (λ c. search needs)
+    (λ c κs. search needs)
+    (λ c κs. search needs)
+    (λ c. search needs)
+    (λ c κs. search needs)
     returns-2
-    same-length
+    (λ c. search needs)
     returns-3)

@@ -8,7 +8,7 @@ use Prim.Native.Nat.{ℕ}
 use mathlib.Core.List.{[], _∷_}
 use mir.Facts.{toZ-ofZ}
 use Rattle.eclipse.specs.Shade.{shadeAnswer}
-use Rattle.yurdelmiz.proofs.Fields.{over-all}
+use Rattle.yurdelmiz.proofs.Stores.{over-all}
 use borrow.Author.Needs.{needs}
 use Rattle.yurdelmiz.proofs.yurdelmiz_shade.Statement.{statement}
 use Rattle.yurdelmiz.proofs.yurdelmiz_shade.Tie as tie
@@ -23,32 +23,11 @@ returns : tie.Need-returns
 unfolding shadeCall
 returns c = bad-buffer _ _ _ (ne-eqb _ 1 (c .if1 .taken))
 
-shade-test-requires : tie.Need-shade-test-requires
-shade-test-requires c κs = search needs
-
-enum-known-shaded : tie.Need-enum-known-shaded
-enum-known-shaded c = search needs
-
-number-requires : tie.Need-number-requires
-number-requires c κs = search needs
-
-enum-known-shaded-2 : tie.Need-enum-known-shaded-2
-enum-known-shaded-2 c = search needs
-
-code-requires : tie.Need-code-requires
-code-requires c κs = search needs
-
-slice-write-answer : tie.Need-slice-write-answer
-slice-write-answer c = search needs
-
 returns-2 : tie.Need-returns-2
 unfolding shadeCall
 returns-2 c =
     let k = c .before .before .before .before .before in
     ends-refused _ _ _ (c .number .ensures) (eq-eqb _ 1 (k .if1 .left)) (ap shadeOutcome (sym (shaded-is (c .before .before .before .before)) ∙ c .before .before .shaded .given .1))
-
-same-length : tie.Need-same-length
-same-length c = search needs
 
 returns-3 : tie.Need-returns-3
 unfolding shadeCall
@@ -62,12 +41,12 @@ yurdelmiz-shade-spec =
     tie.close
     (tie.spec
     returns
-    shade-test-requires
-    enum-known-shaded
-    number-requires
-    enum-known-shaded-2
-    code-requires
-    slice-write-answer
+    (λ c κs. search needs)
+    (λ c. search needs)
+    (λ c κs. search needs)
+    (λ c. search needs)
+    (λ c κs. search needs)
+    (λ c. search needs)
     returns-2
-    same-length
+    (λ c. search needs)
     returns-3)

@@ -17,18 +17,6 @@ returns : tie.Need-returns
 unfolding sunCall
 returns c = bad-buffer _ _ _ (ne-eqb _ 28 (c .if1 .taken))
 
-find-requires : tie.Need-find-requires
-find-requires c κs = search needs
-
-enum-known-found : tie.Need-enum-known-found
-enum-known-found c = search needs
-
-number-requires : tie.Need-number-requires
-number-requires c κs = search needs
-
-enum-known-found-2 : tie.Need-enum-known-found-2
-enum-known-found-2 c = search needs
-
 write-sun-requires : tie.Need-write-sun-requires
 write-sun-requires c κs = (search needs, subst DirectionWithinOne (c .before .before .found2 .given .1) (c .before .before .before .before .find .ensures .small))
 
@@ -37,9 +25,6 @@ unfolding sunCall
 returns-2 c =
     let k = c .before .before .before .before .before in
     ends-refused _ _ _ (c .number .ensures) (eq-eqb _ 28 (k .if1 .left)) (ap sunOutcome (sym (found-is (c .before .before .before .before)) ∙ c .before .before .found .given .1))
-
-same-length : tie.Need-same-length
-same-length c = search needs
 
 returns-3 : tie.Need-returns-3
 unfolding sunCall
@@ -53,11 +38,11 @@ yurdelmiz-sun-spec =
     tie.close
     (tie.spec
     returns
-    find-requires
-    enum-known-found
-    number-requires
-    enum-known-found-2
+    (λ c κs. search needs)
+    (λ c. search needs)
+    (λ c κs. search needs)
+    (λ c. search needs)
     write-sun-requires
     returns-2
-    same-length
+    (λ c. search needs)
     returns-3)

@@ -2,6 +2,7 @@
 use borrow.Author.Needs.{needs}
 use mathlib.Core.Path.{_≡_, refl, ap₂, _∙_}
 use mathlib.Core.Bool.{cond}
+use Prim.Native.Nat.{_-_, _^_}
 use native.Mathlib.Nat.{le-trans}
 use lib.Dec.{eqb}
 use lib.IntN.{ℤ}
@@ -10,7 +11,7 @@ use mir.Val.{SFits, toZ, ofZ}
 use mir.Facts.{toZ-ofZ}
 use Rattle.elements_file.specs.Numbers.{signedOf, largest}
 use Rattle.elements_file.specs.Fields.{stored}
-use Rattle.elements_file.proofs.Magnitudes.{largest-epoch, fits-unsigned, fits-rate}
+use Rattle.elements_file.proofs.Magnitudes.{largest-epoch, fits-unsigned, fits-signed}
 use Rattle.elements_file.proofs.field.stored.Statement.{statement}
 use Rattle.elements_file.proofs.field.stored.Tie as tie
 
@@ -77,22 +78,19 @@ rate-requires : tie.Need-rate-requires
 unfolding largest
 rate-requires c κs =
     let s = c .before .before .before .before .before .before .before .before .before in
-    λ t. rw (signed-is (c .before .before .before .before .before .before .before .before)) (fits-rate 7 (s .args .element) (s .args .number) refl (s .pre) t)
+    λ t. rw (signed-is (c .before .before .before .before .before .before .before .before)) (fits-signed w32 (2 ^ 31 - 1) 7 (s .args .element) (s .args .number) refl refl (s .pre) t)
 
 rate-requires-2 : tie.Need-rate-requires-2
 unfolding largest
 rate-requires-2 c κs =
     let s = c .before .before .before .before .before .before .before .before .before .before .before in
-    λ t. rw (signed-is (c .before .before .before .before .before .before .before .before .before .before)) (fits-rate 8 (s .args .element) (s .args .number) refl (s .pre) t)
+    λ t. rw (signed-is (c .before .before .before .before .before .before .before .before .before .before)) (fits-signed w32 (2 ^ 31 - 1) 8 (s .args .element) (s .args .number) refl refl (s .pre) t)
 
 unsigned-requires-8 : tie.Need-unsigned-requires-8
 unfolding largest
 unsigned-requires-8 c κs =
     let s = c .before .before .before .before .before .before .before .before .before .before .before .before in
     fits-unsigned 9 (s .args .element) (s .args .number .magnitude) (s .args .number .negative) refl (s .pre)
-
-epoch-requires : tie.Need-epoch-requires
-epoch-requires c κs = search needs
 
 returns : tie.Need-returns
 unfolding stored
@@ -129,5 +127,5 @@ stored-spec =
     rate-requires
     rate-requires-2
     unsigned-requires-8
-    epoch-requires
+    (λ c κs. search needs)
     returns)

@@ -9,19 +9,13 @@ returns : tie.Need-returns
 unfolding begun
 returns c = rw (eq-eqb _ _ (c .if1 .taken))
 
-refused-requires : tie.Need-refused-requires
-refused-requires c κs = search needs
-
 returns-2 : tie.Need-returns-2
 unfolding begun
 returns-2 c = rw (ne-eqb _ _ (c .before .before .if1 .left), eq-eqb _ _ (c .before .if2 .taken)) (c .refused .ensures)
-
-named-requires : tie.Need-named-requires
-named-requires c κs = search needs
 
 returns-3 : tie.Need-returns-3
 unfolding begun
 returns-3 c = rw (ne-eqb _ _ (c .before .before .if1 .left), ne-eqb _ _ (c .before .if2 .left)) (c .named .ensures)
 
 pub begun-spec : {M : Type 1} → statement M
-begun-spec = tie.close (tie.spec returns refused-requires returns-2 named-requires returns-3)
+begun-spec = tie.close (tie.spec returns (λ c κs. search needs) returns-2 (λ c κs. search needs) returns-3)

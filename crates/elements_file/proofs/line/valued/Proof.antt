@@ -8,14 +8,8 @@ use Rattle.elements_file.proofs.Magnitudes.{digit-range}
 use Rattle.elements_file.proofs.line.valued.Statement.{statement}
 use Rattle.elements_file.proofs.line.valued.Tie as tie
 
-is-digit-requires : tie.Need-is-digit-requires
-is-digit-requires c κs = search needs
-
 sub-counted : tie.Need-sub-counted
 sub-counted c = omega (arith, digit-range (c .before .before .args .byte) (sym (c .before .is-digit .ensures) ∙ c .if1 .taken))
-
-cast-counted : tie.Need-cast-counted
-cast-counted c = search needs
 
 counted-requires : tie.Need-counted-requires
 counted-requires c κs = omega (arith, digit-range (c .before .before .args .byte) (sym (c .before .is-digit .ensures) ∙ c .if1 .taken))
@@ -23,9 +17,6 @@ counted-requires c κs = omega (arith, digit-range (c .before .before .args .byt
 returns : tie.Need-returns
 unfolding valued
 returns c = rw (sym (c .before .before .is-digit .ensures) ∙ c .before .if1 .taken) (c .counted .ensures)
-
-takes-minus-requires : tie.Need-takes-minus-requires
-takes-minus-requires c κs = search needs
 
 returns-2 : tie.Need-returns-2
 unfolding valued
@@ -39,9 +30,6 @@ returns-4 : tie.Need-returns-4
 unfolding valued
 returns-4 c = rw (sym (c .before .before .before .is-digit .ensures) ∙ c .before .before .if1 .left, ne-eqb _ _ (c .before .if2 .left), eq-eqb _ _ (c .if4 .taken))
 
-refused-requires : tie.Need-refused-requires
-refused-requires c κs = search needs
-
 returns-5 : tie.Need-returns-5
 unfolding valued
 returns-5 c = rw (sym (c .before .before .before .before .is-digit .ensures) ∙ c .before .before .before .if1 .left, ne-eqb _ _ (c .before .before .if2 .left), ne-eqb _ _ (c .before .if4 .left)) (c .refused .ensures)
@@ -50,14 +38,14 @@ pub valued-spec : {M : Type 1} → statement M
 valued-spec =
     tie.close
     (tie.spec
-    is-digit-requires
+    (λ c κs. search needs)
     sub-counted
-    cast-counted
+    (λ c. search needs)
     counted-requires
     returns
-    takes-minus-requires
+    (λ c κs. search needs)
     returns-2
     returns-3
     returns-4
-    refused-requires
+    (λ c κs. search needs)
     returns-5)

@@ -4,29 +4,8 @@ use Rattle.elements_file.specs.Lines.{within}
 use Rattle.elements_file.proofs.line.within.Statement.{statement}
 use Rattle.elements_file.proofs.line.within.Tie as tie
 
-enum-told : tie.Need-enum-told
-enum-told c = search needs
-
-begun-requires : tie.Need-begun-requires
-begun-requires c κs = search needs
-
-enum-told-2 : tie.Need-enum-told-2
-enum-told-2 c = search needs
-
-enum-known-place : tie.Need-enum-known-place
-enum-known-place c = search needs
-
 named-requires : tie.Need-named-requires
 named-requires c κs = rw (c .before .place .given .1) at (c .before .before .before .pre .1)
-
-enum-known-place-2 : tie.Need-enum-known-place-2
-enum-known-place-2 c = search needs
-
-valued-requires : tie.Need-valued-requires
-valued-requires c κs = search needs
-
-enum-known-place-3 : tie.Need-enum-known-place-3
-enum-known-place-3 c = search needs
 
 returns : tie.Need-returns
 unfolding within
@@ -52,14 +31,14 @@ pub within-spec : {M : Type 1} → statement M
 within-spec =
     tie.close
     (tie.spec
-    enum-told
-    begun-requires
-    enum-told-2
-    enum-known-place
+    (λ c. search needs)
+    (λ c κs. search needs)
+    (λ c. search needs)
+    (λ c. search needs)
     named-requires
-    enum-known-place-2
-    valued-requires
-    enum-known-place-3
+    (λ c. search needs)
+    (λ c κs. search needs)
+    (λ c. search needs)
     returns
     returns-2
     returns-3

@@ -14,9 +14,6 @@ returns-2 : tie.Need-returns-2
 unfolding largest
 returns-2 c = rw (eq-eqb _ _ (c .before .if1 .taken), c .if2 .left)
 
-is-rate-requires : tie.Need-is-rate-requires
-is-rate-requires c κs = search needs
-
 returns-3 : tie.Need-returns-3
 unfolding largest
 returns-3 c = rw (ne-eqb _ _ (c .before .before .before .if1 .left), sym (c .before .before .is-rate .ensures) ∙ c .before .if3 .taken, c .if4 .taken)
@@ -31,4 +28,4 @@ returns-5 c = rw (ne-eqb _ _ (c .before .before .if1 .left), sym (c .before .is-
 
 pub largest-spec : {M : Type 1} → statement M
 largest-spec =
-    tie.close (tie.spec returns returns-2 is-rate-requires returns-3 returns-4 returns-5)
+    tie.close (tie.spec returns returns-2 (λ c κs. search needs) returns-3 returns-4 returns-5)

@@ -1,32 +1,19 @@
 -- `yurdelmiz::answers::write_anomaly` meets its contract. Assumes nothing.
+use mathlib.Core.Path.{_∙_}
 use denote.Ref.{now}
 use Rattle.endian.specs.LittleEndian.{bytes4}
-use Rattle.yurdelmiz.specs.Answers.{anomalyFields}
-use Rattle.yurdelmiz.proofs.Fields.{first, next, done, stored}
+use Rattle.yurdelmiz.specs.Answers.{words, anomalyBytes}
+use Rattle.yurdelmiz.proofs.Stores.{over-all}
 use borrow.Author.Needs.{needs}
 use Rattle.yurdelmiz.proofs.answers.write_anomaly.Statement.{statement}
 use Rattle.yurdelmiz.proofs.answers.write_anomaly.Tie as tie
 
-write-u32-requires : tie.Need-write-u32-requires
-write-u32-requires c κs = search needs
-
-add-write-u32 : tie.Need-add-write-u32
-add-write-u32 c = search needs
-
-write-u32-requires-2 : tie.Need-write-u32-requires-2
-write-u32-requires-2 c κs = search needs
-
-same-length : tie.Need-same-length
-same-length c = search needs
-
 returns : tie.Need-returns
-unfolding anomalyFields bytes4
+unfolding anomalyBytes words bytes4
 returns c =
-    let second = c .before .before in
-    let w = second .before .before .before .before in
-    let s = w .before .before .before in
-    stored (s .args .at) (now (s .args .answer)) (anomalyFields (s .args .anomaly)) (first (w .write-u32 .ensures) (next (second .write-u322 .ensures) done))
+    let w = c .before .before in
+    let s = w .before .before .before .before in
+    w .write-words .ensures ∙ over-all (now (s .args .answer)) (anomalyBytes (s .args .anomaly)) (s .pre)
 
 pub write-anomaly-spec : {M : Type 1} → statement M
-write-anomaly-spec =
-    tie.close (tie.spec write-u32-requires add-write-u32 write-u32-requires-2 same-length returns)
+write-anomaly-spec = tie.close (tie.spec (λ c. search needs) (λ c κs. search needs) (λ c. search needs) returns)

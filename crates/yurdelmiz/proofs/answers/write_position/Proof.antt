@@ -1,55 +1,44 @@
 -- `yurdelmiz::answers::write_position` meets its contract. Assumes nothing.
+use mathlib.Core.Path.{refl}
+use mathlib.Core.List.{List, _++_}
+use Prim.Native.Nat.{ℕ}
+use lib.IntN.{ℤ}
 use mir.Syntax.{w64}
-use mir.Val.{SFits}
+use mir.Val.{SFits, ofZ}
 use mir.Facts.{toZ-ofZ}
 use denote.Ref.{now}
 use Rattle.endian.specs.LittleEndian.{bytes4, bytes8}
-use Rattle.yurdelmiz.specs.Answers.{positionFields}
-use Rattle.yurdelmiz.proofs.Fields.{first, next, done, stored}
+use Rattle.endian.proofs.Stores.{then}
+use Rattle.yurdelmiz.specs.Answers.{positionBytes}
 use borrow.Author.Needs.{needs}
 use Rattle.yurdelmiz.proofs.answers.write_position.Statement.{statement}
 use Rattle.yurdelmiz.proofs.answers.write_position.Tie as tie
 
-write-i64-requires : tie.Need-write-i64-requires
-write-i64-requires c κs = search needs
-
-add-write-i64 : tie.Need-add-write-i64
-add-write-i64 c = search needs
-
-write-i64-requires-2 : tie.Need-write-i64-requires-2
-write-i64-requires-2 c κs = search needs
-
-add-write-i64-2 : tie.Need-add-write-i64-2
-add-write-i64-2 c = search needs
-
-write-i64-requires-3 : tie.Need-write-i64-requires-3
-write-i64-requires-3 c κs = search needs
-
-same-length : tie.Need-same-length
-same-length c = search needs
-
 returns : tie.Need-returns
-unfolding positionFields bytes8 bytes4
+unfolding positionBytes bytes8 bytes4
 returns c =
     let m3 = c .before .before in
     let m2 = m3 .before .before .before .before .before in
     let m1 = m2 .before .before .before .before .before in
     let s = m1 .before .before .before .before in
-    let x : SFits w64 (s .args .position .x) = search needs in
-    let y : SFits w64 (s .args .position .y) = search needs in
-    let z : SFits w64 (s .args .position .z) = search needs in
-    stored (s .args .at) (now (s .args .answer)) (positionFields (s .args .position))
-    (first (rw (toZ-ofZ x) at (m1 .write-i64 .ensures))
-    (next (rw (toZ-ofZ y) at (m2 .write-i642 .ensures)) (next (rw (toZ-ofZ z) at (m3 .write-i643 .ensures)) done)))
+    let l = now (s .args .answer) in
+    let at = s .args .at in
+    let p = s .args .position in
+    let x : SFits w64 (p .x) = search needs in
+    let y : SFits w64 (p .y) = search needs in
+    let z : SFits w64 (p .z) = search needs in
+    let bits : ℤ → List ℕ = λ v. bytes8 (ofZ w64 v) in
+    let two = then l _ _ at 8 (bits (p .x)) (bits (p .y)) refl (rw (toZ-ofZ x) at (m1 .write-i64 .ensures)) (rw (toZ-ofZ y) at (m2 .write-i642 .ensures)) in
+    then l _ _ at 16 (bits (p .x) ++ bits (p .y)) (bits (p .z)) refl two (rw (toZ-ofZ z) at (m3 .write-i643 .ensures))
 
 pub write-position-spec : {M : Type 1} → statement M
 write-position-spec =
     tie.close
     (tie.spec
-    write-i64-requires
-    add-write-i64
-    write-i64-requires-2
-    add-write-i64-2
-    write-i64-requires-3
-    same-length
+    (λ c κs. search needs)
+    (λ c. search needs)
+    (λ c κs. search needs)
+    (λ c. search needs)
+    (λ c κs. search needs)
+    (λ c. search needs)
     returns)

@@ -1,85 +1,62 @@
 -- `yurdelmiz::answers::write_state` meets its contract. Assumes nothing.
-use mathlib.Core.Path.{_≡_}
+use mathlib.Core.Path.{_≡_, refl, _∙_}
+use mathlib.Core.List.{[], _∷_, _++_}
 use native.Mathlib.Omega.{arith}
 use lib.IntN.{natAbs}
 use mir.Syntax.{w32, w64}
-use mir.Val.{SFits}
+use mir.Val.{SFits, ofZ}
 use mir.Facts.{toZ-ofZ}
 use denote.Ref.{now}
 use Rattle.endian.specs.LittleEndian.{bytes4, bytes8}
-use Rattle.yurdelmiz.specs.Answers.{stateFields, anomalyFields, positionFields}
-use Rattle.yurdelmiz.proofs.Fields.{first, next, done, filled}
+use Rattle.endian.proofs.Stores.{then}
+use Rattle.yurdelmiz.specs.Answers.{words, positionBytes, stateBytes}
+use Rattle.yurdelmiz.proofs.Stores.{over-all}
 use borrow.Author.Needs.{needs}
 use Rattle.yurdelmiz.proofs.answers.write_state.Statement.{statement}
 use Rattle.yurdelmiz.proofs.answers.write_state.Tie as tie
 
-write-i32-requires : tie.Need-write-i32-requires
-write-i32-requires c κs = search needs
+fits : (s : tie.Start) → let st = s .args .state in SFits w32 (st .revolution) × SFits w64 (st .radius)
+fits s = (search needs, search needs)
 
-write-anomaly-requires : tie.Need-write-anomaly-requires
-write-anomaly-requires c κs = search needs
+abbrev begun : tie.After-magnitude → tie.Start
+begun c = c .before .before .before .before .before .before
 
-magnitude-requires : tie.Need-magnitude-requires
-magnitude-requires c κs = search needs
+magnitude-is : (c : tie.After-magnitude) → c .magnitude .result ≡ natAbs (begun c .args .state .radius)
+magnitude-is c = rw (toZ-ofZ (fits (begun c) .1)) at (c .magnitude .ensures)
 
-revolution-fits : (s : tie.Start) → SFits w32 (s .args .state .revolution)
-revolution-fits s = search needs
-
-radius-fits : (s : tie.Start) → SFits w64 (s .args .state .radius)
-radius-fits s = search needs
-
-magnitude-is : (c : tie.After-magnitude) → c .magnitude .result ≡ natAbs (c .before .before .before .before .before .before .before .before .before .before .before .before .before .args .state .radius)
-magnitude-is c = rw (toZ-ofZ (radius-fits (c .before .before .before .before .before .before .before .before .before .before .before .before .before))) at (c .magnitude .ensures)
-
-cast-write-u32 : tie.Need-cast-write-u32
-cast-write-u32 c =
-    let s = c .before .before .before .before .before .before .before .before .before .before .before .before .before in
-    record { fits = omega (arith, magnitude-is c, s .pre .1) }
-
-write-u32-requires : tie.Need-write-u32-requires
-write-u32-requires c κs = search needs
-
-write-position-requires : tie.Need-write-position-requires
-write-position-requires c κs = search needs
-
-write-u32-requires-2 : tie.Need-write-u32-requires-2
-write-u32-requires-2 c κs = search needs
-
-write-position-requires-2 : tie.Need-write-position-requires-2
-write-position-requires-2 c κs = search needs
-
-same-length : tie.Need-same-length
-same-length c = search needs
+cast-t8 : tie.Need-cast-t8
+cast-t8 c = record { fits = omega (arith, magnitude-is c, begun c .pre .1) }
 
 returns : tie.Need-returns
-unfolding stateFields anomalyFields positionFields bytes8 bytes4
+unfolding stateBytes positionBytes words bytes8 bytes4
 returns c =
-    let m6 = c .before .before in
-    let m5 = m6 .before .before .before .before in
-    let m4 = m5 .before .before .before .before in
+    let m4 = c .before .before in
     let m3 = m4 .before .before .before .before in
-    let m2 = m3 .before .before .before .before .before .before in
+    let m2 = m3 .before .before .before .before in
     let m1 = m2 .before .before .before .before in
-    let s = m1 .before .before .before .before in
-    filled (now (s .args .answer)) (stateFields (s .args .state) (s .args .earth-fixed)) (s .pre .0)
-    (first (rw (toZ-ofZ (revolution-fits s)) at (m1 .write-i32 .ensures))
-    (next (m2 .write-anomaly .ensures)
-    (next (rw (magnitude-is (m3 .before)) at (m3 .write-u32 .ensures))
-    (next (m4 .write-position .ensures)
-    (next (m5 .write-u322 .ensures)
-    (next (m6 .write-position2 .ensures) done))))))
+    let radius = m1 .before .before .before in
+    let revolution = radius .before .before in
+    let s = begun radius in
+    let l = now (s .args .answer) in
+    let st = s .args .state in
+    let numbers = words (ofZ w32 (st .revolution) ∷ st .anomaly .angle ∷ st .anomaly .halvings ∷ natAbs (st .radius) ∷ []) in
+    let one = rw (rw (toZ-ofZ (fits s .0)) at (revolution .bits-of-i32 .ensures), magnitude-is radius) at (m1 .write-words .ensures) in
+    let two = then l _ _ 0 16 numbers (positionBytes (st .position)) refl one (m2 .write-position .ensures) in
+    let three = then l _ _ 0 40 (numbers ++ positionBytes (st .position)) (bytes4 (st .node)) refl two (m3 .write-u32 .ensures) in
+    then l _ _ 0 44 (numbers ++ positionBytes (st .position) ++ bytes4 (st .node)) (positionBytes (s .args .earth-fixed)) refl three (m4 .write-position2 .ensures)
+    ∙ over-all l (stateBytes st (s .args .earth-fixed)) (s .pre .0)
 
 pub write-state-spec : {M : Type 1} → statement M
 write-state-spec =
     tie.close
     (tie.spec
-    write-i32-requires
-    write-anomaly-requires
-    magnitude-requires
-    cast-write-u32
-    write-u32-requires
-    write-position-requires
-    write-u32-requires-2
-    write-position-requires-2
-    same-length
+    (λ c κs. search needs)
+    (λ c κs. search needs)
+    cast-t8
+    (λ c. search needs)
+    (λ c κs. search needs)
+    (λ c κs. search needs)
+    (λ c κs. search needs)
+    (λ c κs. search needs)
+    (λ c. search needs)
     returns)

@@ -6,39 +6,6 @@ use borrow.Author.Needs.{needs}
 use Rattle.yurdelmiz.proofs.buffers.read_elements.Statement.{statement}
 use Rattle.yurdelmiz.proofs.buffers.read_elements.Tie as tie
 
-read-i64-requires : tie.Need-read-i64-requires
-read-i64-requires c κs = search needs
-
-read-u32-requires : tie.Need-read-u32-requires
-read-u32-requires c κs = search needs
-
-read-u32-requires-2 : tie.Need-read-u32-requires-2
-read-u32-requires-2 c κs = search needs
-
-read-u32-requires-3 : tie.Need-read-u32-requires-3
-read-u32-requires-3 c κs = search needs
-
-read-u32-requires-4 : tie.Need-read-u32-requires-4
-read-u32-requires-4 c κs = search needs
-
-read-u32-requires-5 : tie.Need-read-u32-requires-5
-read-u32-requires-5 c κs = search needs
-
-read-u32-requires-6 : tie.Need-read-u32-requires-6
-read-u32-requires-6 c κs = search needs
-
-read-u32-requires-7 : tie.Need-read-u32-requires-7
-read-u32-requires-7 c κs = search needs
-
-read-i32-requires : tie.Need-read-i32-requires
-read-i32-requires c κs = search needs
-
-read-i32-requires-2 : tie.Need-read-i32-requires-2
-read-i32-requires-2 c κs = search needs
-
-read-u32-requires-8 : tie.Need-read-u32-requires-8
-read-u32-requires-8 c κs = search needs
-
 returns : tie.Need-returns
 unfolding elementsOf
 returns c =
@@ -64,15 +31,15 @@ pub read-elements-spec : {M : Type 1} → statement M
 read-elements-spec =
     tie.close
     (tie.spec
-    read-i64-requires
-    read-u32-requires
-    read-u32-requires-2
-    read-u32-requires-3
-    read-u32-requires-4
-    read-u32-requires-5
-    read-u32-requires-6
-    read-u32-requires-7
-    read-i32-requires
-    read-i32-requires-2
-    read-u32-requires-8
+    (λ c κs. search needs)
+    (λ c κs. search needs)
+    (λ c κs. search needs)
+    (λ c κs. search needs)
+    (λ c κs. search needs)
+    (λ c κs. search needs)
+    (λ c κs. search needs)
+    (λ c κs. search needs)
+    (λ c κs. search needs)
+    (λ c κs. search needs)
+    (λ c κs. search needs)
     returns)

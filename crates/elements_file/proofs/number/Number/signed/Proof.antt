@@ -15,9 +15,6 @@ returns : tie.Need-returns
 unfolding signedOf
 returns c = rw (c .before .before .if1 .taken, c .if2 .taken)
 
-sub-result : tie.Need-sub-result
-sub-result c = search needs
-
 cast-result : tie.Need-cast-result
 cast-result c = record { sfits = omega (arith, largest-bits 10 (c .before .before .before .before .args .self .negative)) }
 
@@ -41,4 +38,4 @@ returns-3 c = toZ-pos w64 (cast-result-2 c .sfits) ∙ passed _ _ _ (c .before .
 pub signed-spec : {M : Type 1} → statement M
 signed-spec =
     tie.close
-    (tie.spec returns sub-result cast-result sub-result-2 returns-2 cast-result-2 returns-3)
+    (tie.spec returns (λ c. search needs) cast-result sub-result-2 returns-2 cast-result-2 returns-3)

@@ -13,9 +13,6 @@ returns-2 : tie.Need-returns-2
 unfolding takesMinus
 returns-2 c = rw (c .before .if1 .left, c .if2 .taken)
 
-is-rate-requires : tie.Need-is-rate-requires
-is-rate-requires c κs = search needs
-
 returns-3 : tie.Need-returns-3
 unfolding takesMinus
 returns-3 c = rw (c .before .before .before .if1 .left, c .before .before .if2 .left, sym (c .before .is-rate .ensures) ∙ c .if3 .taken)
@@ -25,4 +22,4 @@ unfolding takesMinus
 returns-4 c = rw (c .before .before .before .if1 .left, c .before .before .if2 .left, sym (c .before .is-rate .ensures) ∙ c .if3 .left)
 
 pub takes-minus-spec : {M : Type 1} → statement M
-takes-minus-spec = tie.close (tie.spec returns returns-2 is-rate-requires returns-3 returns-4)
+takes-minus-spec = tie.close (tie.spec returns returns-2 (λ c κs. search needs) returns-3 returns-4)

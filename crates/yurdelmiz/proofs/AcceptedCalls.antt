@@ -1,0 +1,180 @@
+-- What a call that ended with status 0 gave, for its caller to cite; and what the result of a malformed elements file says. Assumes nothing.
+use mathlib.Core.Path.{_≡_, refl, sym, ap, subst, _∙_}
+use mathlib.Core.Bool.{Bool, true, false}
+use mathlib.Core.List.{List}
+use Prim.Native.Nat.{ℕ, _+_, _*_, _/_, _%_, _^_, _≤_, _<_}
+use native.Mathlib.Omega.{arith}
+use borrow.Author.Tests.{eq-eqb, leb-true, leb-false}
+use lib.Dec.{lit≤, leb}
+use lib.IntN.{ℤ}
+use lib.ListN.{length, getD}
+use Rattle.refusal.specs.Numbers.{numberOf}
+use Rattle.refusal.specs.declared.Refusal.{Refusal}
+use Rattle.refusal.specs.declared.Refusal.the-variants.{Eccentricity, SemiMajorAxis, PerigeeDistance, Inclination, MeanMotion, DriftRate, EpochRevolution, Time, NotConverged, TelemetryLength, OutputLength, Trailer, Labels, Component}
+use Rattle.kepler.specs.Contract.{AnomalyAt}
+use Rattle.kepler.specs.Solution.{solution}
+use Rattle.kepler.specs.declared.Anomaly.{Anomaly}
+use Rattle.kepler.specs.declared.Solution.{Solution}
+use Rattle.kepler.proofs.Answer as solver
+use Rattle.orbit.specs.Placement.{placement, StateAt}
+use Rattle.orbit.specs.declared.State.{State}
+use Rattle.orbit.specs.declared.Placement.{Placement}
+use Rattle.orbit.specs.declared.Placement.the-variants as placement
+use Rattle.orbit.specs.declared.elements.Elements.{Elements}
+use Rattle.orbit.proofs.Placements.{placed-state}
+use Rattle.elements_file.specs.Contract.{Counted}
+use Rattle.elements_file.specs.Reading.{parsed}
+use Rattle.elements_file.specs.declared.Fault.{Fault}
+use Rattle.elements_file.specs.declared.Fault.the-variants.{Name, Extra, ControlByte, DecimalPoint, NotWhole, TooLarge, Unended, Missing, TooLong}
+use Rattle.elements_file.specs.declared.Parsed.{Parsed}
+use Rattle.elements_file.specs.declared.Parsed.the-variants as parsed
+use Rattle.elements_file.proofs.Consistency.{parsed-counted}
+use Rattle.label_file.specs.Trailer.{distanceBack}
+use Rattle.label_file.specs.declared.Counts.{Counts}
+use Rattle.labelling.specs.Day.{labelling, records, outputAfter}
+use Rattle.labelling.specs.declared.Labelling.{Labelling}
+use Rattle.labelling.specs.declared.Labelling.the-variants as labelling
+use Rattle.labelling.proofs.WrittenFile.{written-buffer-accepted}
+use Rattle.yurdelmiz.specs.Answers.{anomalyBytes, stateBytes, elementsBytes, countsBytes}
+use Rattle.yurdelmiz.specs.Buffers.{elementsOf}
+use Rattle.yurdelmiz.specs.Faults.{faultNumber, faultPlace}
+use Rattle.yurdelmiz.specs.Call.{Call, Outcome, refused, given, callOf, statusAt}
+use Rattle.yurdelmiz.specs.Calls.{anomalyOutcome, keplerCall, earthFixedAt, stateOutcome, positionCall, elementsOutcome, elementsCall, dayOutcome, labelCall, labelOutcome, countsOutcome, readCall}
+use Rattle.yurdelmiz.proofs.Elements.{elements-back, four-below}
+use Rattle.yurdelmiz.proofs.Endings.{ends-refused, ends-given}
+
+-- ---- status 0
+
+numbered : (r : Refusal) → 1 ≤ numberOf r
+numbered Eccentricity = lit≤ tt
+numbered SemiMajorAxis = lit≤ tt
+numbered PerigeeDistance = lit≤ tt
+numbered Inclination = lit≤ tt
+numbered MeanMotion = lit≤ tt
+numbered DriftRate = lit≤ tt
+numbered EpochRevolution = lit≤ tt
+numbered Time = lit≤ tt
+numbered NotConverged = lit≤ tt
+numbered TelemetryLength = lit≤ tt
+numbered OutputLength = lit≤ tt
+numbered Trailer = lit≤ tt
+numbered Labels = lit≤ tt
+numbered Component = lit≤ tt
+
+fault-numbered : (f : Fault) → (101 ≤ faultNumber f) × (faultNumber f ≤ 109)
+fault-numbered Name = (lit≤ tt, lit≤ tt)
+fault-numbered Extra = (lit≤ tt, lit≤ tt)
+fault-numbered ControlByte = (lit≤ tt, lit≤ tt)
+fault-numbered DecimalPoint = (lit≤ tt, lit≤ tt)
+fault-numbered NotWhole = (lit≤ tt, lit≤ tt)
+fault-numbered TooLarge = (lit≤ tt, lit≤ tt)
+fault-numbered Unended = (lit≤ tt, lit≤ tt)
+fault-numbered Missing = (lit≤ tt, lit≤ tt)
+fault-numbered TooLong = (lit≤ tt, lit≤ tt)
+
+-- what is asked for was given, or its refusal would have the number 0
+abbrev Ending : Outcome → List ℕ → Type 0
+Ending (refused status) answer = status ≡ 0
+Ending (given bytes) answer = answer ≡ bytes
+
+accepted : (lengths : Bool) (outcome : Outcome) (buffer : List ℕ) → callOf lengths outcome buffer .status ≡ 0 → Ending outcome (callOf lengths outcome buffer .answer)
+unfolding callOf
+accepted true (refused status) buffer e = e
+accepted true (given bytes) buffer e = refl
+accepted false outcome buffer e = absurd (omega arith)
+
+-- ---- yurdelmiz_kepler
+
+-- the eccentricity is allowed, and the bytes are those of the definition's E and halvings, with the bracket and demand 3
+pub record KeplerAnswer (e M : ℕ) (answer : List ℕ) : Type 0 where
+  pub eccentricity-le : e ≤ 9_000_000
+  pub anomaly : Anomaly
+  pub anomaly-at : AnomalyAt e M anomaly
+  pub answer-is : answer ≡ anomalyBytes anomaly
+
+kepler-by : (e M : ℕ) (answer : List ℕ) (t : Bool) → leb e 9_000_000 ≡ t → M < 2 ^ 32 → Ending (anomalyOutcome (solution e M)) answer → KeplerAnswer e M answer
+kepler-by e M answer true h angle g =
+    let le = leb-true e 9_000_000 h in
+    record { eccentricity-le = le; anomaly = solver.anomalyOf e M; anomaly-at = solver.anomaly-at e M le angle; answer-is = rw (solver.never-refused-9 e M le angle) at g }
+kepler-by e M answer false h angle g =
+    let z = rw (solver.refused e M (leb-false e 9_000_000 h)) at g in absurd (omega arith)
+
+pub kepler-accepted : (e M : ℕ) (buffer : List ℕ) → M < 2 ^ 32 → keplerCall e M buffer .status ≡ 0 → KeplerAnswer e M (keplerCall e M buffer .answer)
+unfolding keplerCall
+kepler-accepted e M buffer angle s = kepler-by e M _ (leb e 9_000_000) refl angle (accepted _ _ buffer s)
+
+-- ---- yurdelmiz_position
+
+-- the bytes are those of the definition's state, with demand 3 and the radius between perigee and apogee, and of its Earth-fixed position
+pub record PositionAnswer (el : Elements) (t : ℤ) (answer : List ℕ) : Type 0 where
+  pub state : State
+  pub state-at : StateAt el t state
+  pub answer-is : answer ≡ stateBytes state (earthFixedAt (state .position) t)
+
+position-by : (el : Elements) (t : ℤ) (answer : List ℕ) (r : Placement) → placement el t ≡ r → el .«mean_anomaly» < 2 ^ 32 → Ending (stateOutcome r t) answer → PositionAnswer el t answer
+position-by el t answer (placement.Refused refusal) e angle g = absurd (omega (arith, numbered refusal))
+position-by el t answer (placement.Placed s) e angle g = record { state = s; state-at = placed-state el t angle s e; answer-is = g }
+
+pub position-accepted : (elements : List ℕ) (t : ℤ) (buffer : List ℕ) → ((k : ℕ) → getD elements k 0 < 256) → positionCall elements t buffer .status ≡ 0
+    → PositionAnswer (elementsOf elements) t (positionCall elements t buffer .answer)
+unfolding positionCall elementsOf
+position-accepted elements t buffer bytes s =
+    position-by (elementsOf elements) t _ (placement (elementsOf elements) t) refl (four-below elements bytes 28) (accepted _ _ buffer s)
+
+-- ---- yurdelmiz_elements
+
+-- the text gives the elements that the calls read from the answer
+pub record ElementsAnswer (text answer : List ℕ) : Type 0 where
+  pub elements : Elements
+  pub parsed-is : parsed text ≡ parsed.Whole elements
+  pub answer-is : answer ≡ elementsBytes elements
+  pub elements-are : elementsOf answer ≡ elements
+
+elements-by : (text answer : List ℕ) (r : Parsed) → parsed text ≡ r → Ending (elementsOutcome r) answer → ElementsAnswer text answer
+elements-by text answer (parsed.Malformed line element fault) e g = absurd (omega (arith, fault-numbered fault))
+elements-by text answer (parsed.Whole el) e g =
+    record { elements = el; parsed-is = e; answer-is = g; elements-are = rw g (elements-back el (subst Counted e (parsed-counted text))) }
+
+pub elements-accepted : (text buffer : List ℕ) → elementsCall text buffer .status ≡ 0 → ElementsAnswer text (elementsCall text buffer .answer)
+unfolding elementsCall
+elements-accepted text buffer s = elements-by text _ (parsed text) refl (accepted _ _ buffer s)
+
+-- the parts of the result where the text is malformed, as YURDELMIZ_STATUS, YURDELMIZ_LINE and YURDELMIZ_ELEMENT take it apart
+pub record FaultResult (line element number result : ℕ) : Type 0 where
+  pub status-is : result % 2 ^ 32 ≡ number
+  pub line-is : result / 2 ^ 32 % 2 ^ 24 ≡ line
+  pub element-is : result / 2 ^ 32 / 2 ^ 24 ≡ element
+
+pub elements-malformed : (text buffer : List ℕ) (line element : ℕ) (fault : Fault) → length buffer ≡ 48 → parsed text ≡ parsed.Malformed line element fault
+    → FaultResult line element (faultNumber fault) (elementsCall text buffer .status)
+unfolding elementsCall
+elements-malformed text buffer line element fault n e =
+    let c = subst Counted e (parsed-counted text) in
+    let k = fault-numbered fault in
+    let s = ap (λ (x : Call). x .status) (sym (ends-refused _ _ buffer {status = statusAt (faultNumber fault) (faultPlace line element)} refl (eq-eqb _ 48 n) (ap elementsOutcome e))) in
+    record { status-is = omega arith; line-is = omega arith; element-is = omega arith }
+
+-- ---- yurdelmiz_label, and yurdelmiz_read of what it wrote
+
+-- a read call takes the labels and the trailer with the counts of the labels
+pub record LabelAnswer (elements telemetry output : List ℕ) : Type 0 where
+  pub counts : Counts
+  pub labelled : labelling (elementsOf elements) telemetry (length output) ≡ labelling.Labelled counts
+  pub reads-back : (buffer : List ℕ) → length buffer ≡ 12
+      → readCall (labelCall elements telemetry output .answer) (distanceBack (records telemetry)) buffer ≡ record { status = 0; answer = countsBytes counts }
+
+label-by : (elements telemetry output answer : List ℕ) (r : Labelling) → labelling (elementsOf elements) telemetry (length output) ≡ r
+    → labelCall elements telemetry output .answer ≡ answer
+    → Ending (labelOutcome r (outputAfter (elementsOf elements) telemetry output)) answer → LabelAnswer elements telemetry output
+unfolding readCall
+label-by elements telemetry output answer (labelling.Refused refusal place) e a g = absurd (omega (arith, numbered refusal))
+label-by elements telemetry output answer (labelling.Labelled counts) e a g =
+    record {
+      counts = counts;
+      labelled = e;
+      reads-back = λ buffer n. rw (a ∙ g) (sym (ends-given _ _ buffer refl (eq-eqb _ 12 n) (ap countsOutcome (written-buffer-accepted (elementsOf elements) telemetry output counts e))));
+    }
+
+pub label-accepted : (elements telemetry output : List ℕ) → labelCall elements telemetry output .status ≡ 0 → LabelAnswer elements telemetry output
+unfolding labelCall dayOutcome
+label-accepted elements telemetry output s = label-by elements telemetry output _ (labelling (elementsOf elements) telemetry (length output)) refl refl (accepted _ _ output s)
