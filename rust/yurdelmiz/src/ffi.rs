@@ -3,18 +3,30 @@
 /// Status of a call whose `elements` or `answer` has a wrong length.
 pub const BAD_BUFFER: u32 = 255;
 
+/// Status of the first fault of an elements file; the others follow in the header's order.
+pub const FIRST_FAULT: u32 = 101;
+
+/// Length of `elements`.
 pub const ELEMENTS_BYTES: usize = 48;
+/// Length of the answer of [`yurdelmiz_kepler`].
 pub const KEPLER_BYTES: usize = 8;
+/// Length of the answer of [`yurdelmiz_sun`].
 pub const SUN_BYTES: usize = 28;
+/// Length of the answer of [`yurdelmiz_position`].
 pub const POSITION_BYTES: usize = 68;
+/// Length of the answer of [`yurdelmiz_shade`].
 pub const SHADE_BYTES: usize = 1;
+/// Length of the answer of [`yurdelmiz_read`].
 pub const READ_BYTES: usize = 12;
 
 extern "C" {
+    /// The sine of an angle.
     pub fn yurdelmiz_sine(angle: u32) -> i64;
 
+    /// The cosine of an angle.
     pub fn yurdelmiz_cosine(angle: u32) -> i64;
 
+    /// Solves Kepler's equation.
     pub fn yurdelmiz_kepler(
         eccentricity: u32,
         mean_anomaly: u32,
@@ -22,8 +34,18 @@ extern "C" {
         answer_len: usize,
     ) -> u32;
 
+    /// The Sun at a time.
     pub fn yurdelmiz_sun(time: i64, answer: *mut u8, answer_len: usize) -> u32;
 
+    /// Reads an elements file.
+    pub fn yurdelmiz_elements(
+        text: *const u8,
+        text_len: usize,
+        answer: *mut u8,
+        answer_len: usize,
+    ) -> u64;
+
+    /// The satellite at a time.
     pub fn yurdelmiz_position(
         elements: *const u8,
         elements_len: usize,
@@ -32,6 +54,7 @@ extern "C" {
         answer_len: usize,
     ) -> u32;
 
+    /// The shade test.
     pub fn yurdelmiz_shade(
         x: i64,
         y: i64,
@@ -43,6 +66,7 @@ extern "C" {
         answer_len: usize,
     ) -> u32;
 
+    /// Labels a day's telemetry.
     pub fn yurdelmiz_label(
         elements: *const u8,
         elements_len: usize,
@@ -52,10 +76,11 @@ extern "C" {
         output_len: usize,
     ) -> u64;
 
+    /// Reads the label file in the first `size` bytes of `file`.
     pub fn yurdelmiz_read(
         file: *const u8,
         file_len: usize,
-        length: usize,
+        size: usize,
         answer: *mut u8,
         answer_len: usize,
     ) -> u64;
