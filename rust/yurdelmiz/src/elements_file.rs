@@ -106,17 +106,17 @@ pub enum Fault {
     TooLong,
 }
 
-/// The faults in the order of their statuses in the C interface, from [`ffi::FIRST_FAULT`] on.
-const FAULTS: [Fault; 9] = [
-    Fault::Name,
-    Fault::Extra,
-    Fault::ControlByte,
-    Fault::DecimalPoint,
-    Fault::NotWhole,
-    Fault::TooLarge,
-    Fault::Unended,
-    Fault::Missing,
-    Fault::TooLong,
+/// Each fault with its status in the C interface.
+const FAULTS: [(u32, Fault); 9] = [
+    (ffi::MALFORMED_NAME, Fault::Name),
+    (ffi::MALFORMED_EXTRA, Fault::Extra),
+    (ffi::MALFORMED_CONTROL_BYTE, Fault::ControlByte),
+    (ffi::MALFORMED_DECIMAL_POINT, Fault::DecimalPoint),
+    (ffi::MALFORMED_NOT_WHOLE, Fault::NotWhole),
+    (ffi::MALFORMED_TOO_LARGE, Fault::TooLarge),
+    (ffi::MALFORMED_UNENDED, Fault::Unended),
+    (ffi::MALFORMED_MISSING, Fault::Missing),
+    (ffi::MALFORMED_TOO_LONG, Fault::TooLong),
 ];
 
 /// The first fault of an elements file.
@@ -132,14 +132,13 @@ pub struct Malformed {
 
 impl Malformed {
     fn from_result(result: u64) -> Malformed {
-        let status = result as u32;
-        let fault = status
-            .checked_sub(ffi::FIRST_FAULT)
-            .and_then(|number| FAULTS.get(number as usize))
+        let (status, place) = (result as u32, (result >> 32) as u32);
+        let (_, fault) = FAULTS
+            .into_iter()
+            .find(|(known, _)| *known == status)
             .unwrap_or_else(|| panic!("status {status} is outside the C interface"));
-        let place = (result >> 32) as u32;
         Malformed {
-            fault: *fault,
+            fault,
             line: place & 0xff_ffff,
             element: Element::ALL.get((place >> 24) as usize).copied(),
         }

@@ -3,8 +3,24 @@
 /// Status of a call whose `elements` or `answer` has a wrong length.
 pub const BAD_BUFFER: u32 = 255;
 
-/// Status of the first fault of an elements file; the others follow in the header's order.
-pub const FIRST_FAULT: u32 = 101;
+/// Status of [`yurdelmiz_elements`]: a line does not begin with the name that is due, and a space.
+pub const MALFORMED_NAME: u32 = 101;
+/// A further line after the last element.
+pub const MALFORMED_EXTRA: u32 = 102;
+/// A byte below 32 outside a comment.
+pub const MALFORMED_CONTROL_BYTE: u32 = 103;
+/// A decimal point in a number.
+pub const MALFORMED_DECIMAL_POINT: u32 = 104;
+/// No whole number, or something behind it.
+pub const MALFORMED_NOT_WHOLE: u32 = 105;
+/// A number too large for its element.
+pub const MALFORMED_TOO_LARGE: u32 = 106;
+/// The file ends within a line.
+pub const MALFORMED_UNENDED: u32 = 107;
+/// The file ends before its last element.
+pub const MALFORMED_MISSING: u32 = 108;
+/// The file has more than 65,535 bytes.
+pub const MALFORMED_TOO_LONG: u32 = 109;
 
 /// Length of `elements`.
 pub const ELEMENTS_BYTES: usize = 48;
@@ -37,14 +53,6 @@ extern "C" {
     /// The Sun at a time.
     pub fn yurdelmiz_sun(time: i64, answer: *mut u8, answer_len: usize) -> u32;
 
-    /// Reads an elements file.
-    pub fn yurdelmiz_elements(
-        text: *const u8,
-        text_len: usize,
-        answer: *mut u8,
-        answer_len: usize,
-    ) -> u64;
-
     /// The satellite at a time.
     pub fn yurdelmiz_position(
         elements: *const u8,
@@ -65,6 +73,14 @@ extern "C" {
         answer: *mut u8,
         answer_len: usize,
     ) -> u32;
+
+    /// Reads an elements file.
+    pub fn yurdelmiz_elements(
+        text: *const u8,
+        text_len: usize,
+        answer: *mut u8,
+        answer_len: usize,
+    ) -> u64;
 
     /// Labels a day's telemetry.
     pub fn yurdelmiz_label(
