@@ -16,7 +16,8 @@ use Rattle.kepler.specs.Solution.{solution}
 use Rattle.kepler.specs.declared.Anomaly.{Anomaly}
 use Rattle.kepler.specs.declared.Solution.{Solution}
 use Rattle.kepler.proofs.Answer as solver
-use Rattle.orbit.specs.Placement.{placement, StateAt}
+use Rattle.orbit.specs.Contract.{StateAt}
+use Rattle.orbit.specs.Placement.{placement}
 use Rattle.orbit.specs.declared.State.{State}
 use Rattle.orbit.specs.declared.Placement.{Placement}
 use Rattle.orbit.specs.declared.Placement.the-variants as placement

@@ -6,42 +6,52 @@ use std::fmt;
 /// Why an input is refused.
 #[derive(Clone, Copy, Debug, PartialEq, Eq, Hash)]
 pub enum Refusal {
+    /// 1: above 9,000,000 units of 10^-7.
     Eccentricity,
+    /// 2: outside 6,600,000 to 100,000,000 metres.
     SemiMajorAxis,
+    /// 3: below 6,478,000 metres.
     PerigeeDistance,
+    /// 4: above half a turn.
     Inclination,
+    /// 5: outside 20,000,000 to 1,700,000,000 units of 10^-8 revolution a day.
     MeanMotion,
+    /// 6: of node or perigee, beyond 200,000 units of 10^-4 degree a day either way.
     DriftRate,
+    /// 7: above 99,999.
     EpochRevolution,
+    /// 8: epoch or time outside -2,834,956,800 to 3,476,476,799, or over 31,622,400 s apart.
     Time,
+    /// 9: the halving did not end with the mean anomaly between its two neighbours.
     NotConverged,
+    /// 10: no multiple of 16 bytes, or over 1,024 records.
     TelemetryLength,
+    /// 11: shorter than 24 bytes a record and 16.
     OutputLength,
+    /// 12: a label file's length, or a number of its trailer.
     Trailer,
+    /// 13: a label breaks a field rule, or the trailer's counts are not those of the labels.
     Labels,
+    /// 14: of a position beyond 200,000,000 metres, or of the Sun beyond 2^30, either way.
     Component,
 }
 
 /// Each refusal with its number and its sentence.
 const TABLE: [(Refusal, u32, &str); 14] = [
     (Refusal::Eccentricity, 1, "the eccentricity is above 0.9"),
-    (Refusal::SemiMajorAxis, 2, "the semi-major axis is outside 6,600 to 100,000 km"),
-    (Refusal::PerigeeDistance, 3, "the perigee distance is below 6,478 km"),
-    (Refusal::Inclination, 4, "the inclination is above half a turn"),
-    (Refusal::MeanMotion, 5, "the mean motion is outside 0.2 to 17 revolutions a day"),
+    (Refusal::SemiMajorAxis, 2, "the semi-major axis is not within 6,600 to 100,000 km"),
+    (Refusal::PerigeeDistance, 3, "the perigee is less than 6,478 km from the Earth's centre"),
+    (Refusal::Inclination, 4, "the inclination is above 180 degrees"),
+    (Refusal::MeanMotion, 5, "the mean motion is not within 0.2 to 17 revolutions a day"),
     (Refusal::DriftRate, 6, "a drift rate is beyond 20 degrees a day"),
-    (Refusal::EpochRevolution, 7, "the epoch revolution is above 99,999"),
-    (
-        Refusal::Time,
-        8,
-        "the epoch or time is outside 1900 March 1 to 2100 February 28, or they are over 366 days apart",
-    ),
-    (Refusal::NotConverged, 9, "the halving did not bracket the mean anomaly"),
-    (Refusal::TelemetryLength, 10, "the telemetry is not a whole number of records, at most 1,024"),
-    (Refusal::OutputLength, 11, "the output is too short for the labels and the trailer"),
-    (Refusal::Trailer, 12, "the length or the trailer is not that of a label file"),
-    (Refusal::Labels, 13, "a label breaks a field rule, or the counts are not those of the labels"),
-    (Refusal::Component, 14, "a component of the position or of the Sun's direction is out of range"),
+    (Refusal::EpochRevolution, 7, "the epoch's revolution is above 99,999"),
+    (Refusal::Time, 8, "the time, or the epoch, is not within 1900 March 1 to 2100 February 28, or they are over 366 days apart"),
+    (Refusal::NotConverged, 9, "Kepler's equation was not solved"),
+    (Refusal::TelemetryLength, 10, "the telemetry is not a whole number of 16-byte records, or has over 1,024"),
+    (Refusal::OutputLength, 11, "the output has no room for the labels"),
+    (Refusal::Trailer, 12, "the label file's length and its trailer do not fit"),
+    (Refusal::Labels, 13, "a label breaks the rules, or the trailer's counts are not those of the labels"),
+    (Refusal::Component, 14, "a position or the Sun's direction is out of range"),
 ];
 
 impl Refusal {
@@ -76,6 +86,7 @@ impl Error for Refusal {}
 /// A refusal from labelling or reading, with the number of the record or label from 0.
 #[derive(Clone, Copy, Debug, PartialEq, Eq, Hash)]
 pub struct Refused {
+    /// Why.
     pub refusal: Refusal,
     /// 0 where no record or label is at fault.
     pub place: u32,

@@ -1,0 +1,67 @@
+//! The elements as they were taken, in decimals, degrees and a date, by which a person sees a lost digit.
+
+use yurdelmiz::{Element, Elements};
+
+use crate::date;
+use crate::decimal::{degrees, fixed};
+
+/// An element's number, as the file has it.
+pub fn number(element: Element, elements: &Elements) -> i64 {
+    match element {
+        Element::Eccentricity => elements.eccentricity.into(),
+        Element::SemiMajorAxis => elements.semi_major_axis.into(),
+        Element::Inclination => elements.inclination.into(),
+        Element::Node => elements.node.into(),
+        Element::ArgumentOfPerigee => elements.argument_of_perigee.into(),
+        Element::MeanAnomaly => elements.mean_anomaly.into(),
+        Element::MeanMotion => elements.mean_motion.into(),
+        Element::NodeRate => elements.node_rate.into(),
+        Element::PerigeeRate => elements.perigee_rate.into(),
+        Element::EpochRevolution => elements.epoch_revolution.into(),
+        Element::Epoch => elements.epoch,
+    }
+}
+
+/// What an element's number stands for.
+pub fn value(element: Element, elements: &Elements) -> String {
+    match element {
+        Element::Eccentricity => fixed(elements.eccentricity.into(), 7),
+        Element::SemiMajorAxis => format!("{} metres", elements.semi_major_axis),
+        Element::Inclination => angle(elements.inclination),
+        Element::Node => angle(elements.node),
+        Element::ArgumentOfPerigee => angle(elements.argument_of_perigee),
+        Element::MeanAnomaly => angle(elements.mean_anomaly),
+        Element::MeanMotion => {
+            format!("{} revolutions a day", fixed(elements.mean_motion.into(), 8))
+        }
+        Element::NodeRate => rate(elements.node_rate),
+        Element::PerigeeRate => rate(elements.perigee_rate),
+        Element::EpochRevolution => elements.epoch_revolution.to_string(),
+        Element::Epoch => epoch(elements.epoch),
+    }
+}
+
+fn angle(angle: u32) -> String {
+    format!("{} degrees", degrees(angle))
+}
+
+fn rate(rate: i32) -> String {
+    format!("{} degrees a day", fixed(rate.into(), 4))
+}
+
+/// A date within the range of times, for which the Sun is known, and else seconds.
+fn epoch(time: i64) -> String {
+    match yurdelmiz::sun(time) {
+        Ok(_) => date::shown(time),
+        Err(_) => date::seconds(time),
+    }
+}
+
+/// One line an element, in the order of the file.
+pub fn lines(elements: &Elements) -> String {
+    let lines = Element::ALL.map(|element| {
+        let value = value(element, elements);
+        format!("{} {value}", element.name())
+    });
+    lines.join("\n")
+}

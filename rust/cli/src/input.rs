@@ -1,0 +1,104 @@
+//! Files that are read, and of each no more is kept than can be of use.
+
+use std::fs::{self, File};
+use std::io::{self, Read, Seek, SeekFrom};
+use std::path::Path;
+
+use crate::failure::{words, Failure};
+
+fn unread(path: &Path, why: impl std::fmt::Display) -> Failure {
+    Failure::file(path, format!("cannot be read: {why}"))
+}
+
+fn open(path: &Path) -> Result<File, Failure> {
+    let file = File::open(path).map_err(|error| unread(path, words(&error)))?;
+    if fs::metadata(path).is_ok_and(|metadata| metadata.is_dir()) {
+        return Err(unread(path, "it is a folder: name a file"));
+    }
+    Ok(file)
+}
+
+/// The start of a file.
+pub struct Start {
+    /// The file, or one byte more than the most that was asked for.
+    pub bytes: Vec<u8>,
+    /// The length of the whole file, where it is known.
+    pub length: Option<u64>,
+}
+
+/// A file up to `most` bytes, and one more by which a longer one is known.
+pub fn read_start(path: &Path, most: usize) -> Result<Start, Failure> {
+    let file = open(path)?;
+    let metadata = file.metadata().map_err(|error| unread(path, words(&error)))?;
+    let mut bytes = Vec::new();
+    let read = file.take(most as u64 + 1).read_to_end(&mut bytes);
+    read.map_err(|error| unread(path, words(&error)))?;
+    let length = if bytes.len() <= most {
+        Some(bytes.len() as u64)
+    } else {
+        metadata.is_file().then_some(metadata.len())
+    };
+    Ok(Start { bytes, length })
+}
+
+/// The end of a file.
+pub struct End {
+    /// The last bytes, as many as were asked for or all.
+    pub bytes: Vec<u8>,
+    /// The length of the whole file.
+    pub length: u64,
+}
+
+/// The last `most` bytes of a file of any length.
+pub fn read_end(path: &Path, most: usize) -> Result<End, Failure> {
+    let mut file = open(path)?;
+    let ahead = match skip_to_end(&mut file, most) {
+        Ok(ahead) => ahead,
+        Err(error) => return Err(unread(path, words(&error))),
+    };
+    let mut bytes = Vec::new();
+    let mut length = ahead;
+    let mut block = [0; 65_536];
+    loop {
+        match file.read(&mut block) {
+            Ok(0) => break,
+            Ok(read) => {
+                length += read as u64;
+                bytes.extend_from_slice(&block[..read]);
+                // Twice the most is kept, so that few bytes are moved.
+                if bytes.len() > 2 * most + block.len() {
+                    bytes.drain(..bytes.len() - most);
+                }
+            }
+            Err(error) if error.kind() == io::ErrorKind::Interrupted => {}
+            Err(error) => return Err(unread(path, words(&error))),
+        }
+    }
+    bytes.drain(..bytes.len().saturating_sub(most));
+    Ok(End { bytes, length })
+}
+
+/// Goes to `most` bytes before the end of a regular file, and says how many bytes that skips. What is no
+/// regular file is read from its start.
+fn skip_to_end(file: &mut File, most: usize) -> io::Result<u64> {
+    let metadata = file.metadata()?;
+    if !metadata.is_file() {
+        return Ok(0);
+    }
+    let ahead = metadata.len().saturating_sub(most as u64);
+    file.seek(SeekFrom::Start(ahead))
+}
+
+/// Whether the start of some bytes could be text.
+pub fn looks_like_text(bytes: &[u8]) -> bool {
+    let start = &bytes[..bytes.len().min(512)];
+    let text = match std::str::from_utf8(start) {
+        Ok(text) => text,
+        // A character that the cut went through.
+        Err(error) if error.error_len().is_none() => {
+            std::str::from_utf8(&start[..error.valid_up_to()]).unwrap_or("")
+        }
+        Err(_) => return false,
+    };
+    !text.is_empty() && text.chars().all(|c| !c.is_control() || matches!(c, '\n' | '\r' | '\t'))
+}

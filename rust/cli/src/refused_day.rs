@@ -1,0 +1,199 @@
+//! Why a day was not labelled: which file, which line or record, what it holds, and what to do. The refusal is
+//! the library's; which of a refusal's causes it was is found by asking the library again.
+
+use std::path::Path;
+
+use yurdelmiz::{Element, Elements, Refusal, Refused, Sample};
+
+use crate::date;
+use crate::decimal::grouped;
+use crate::elements_report;
+use crate::failure::Failure;
+use crate::quote;
+use crate::telemetry_input::Telemetry;
+
+const OUTSIDE: &str = "outside 1900 March 1 to 2100 February 28";
+
+/// What a refused day was made of.
+pub struct Day<'a> {
+    pub elements_path: &'a Path,
+    pub text: &'a [u8],
+    pub elements: &'a Elements,
+    pub telemetry_path: &'a Path,
+    pub telemetry: &'a Telemetry,
+}
+
+pub fn failure(day: &Day, refused: Refused) -> Failure {
+    Failure::refused(match refused.refusal {
+        Refusal::Eccentricity => day.of(Element::Eccentricity),
+        Refusal::SemiMajorAxis => day.axis(),
+        Refusal::PerigeeDistance => day.perigee(),
+        Refusal::Inclination => day.of(Element::Inclination),
+        Refusal::MeanMotion => day.of(Element::MeanMotion),
+        Refusal::DriftRate => day.rate(),
+        Refusal::EpochRevolution => day.of(Element::EpochRevolution),
+        Refusal::Time if out_of_range(day.elements.epoch) => day.epoch(),
+        Refusal::Time => day.record(refused.place as usize),
+        Refusal::TelemetryLength => day.length(),
+        _ => format!("{}: {refused}", quote::path(day.telemetry_path)),
+    })
+}
+
+/// The Sun is known at every time within the range.
+fn out_of_range(time: i64) -> bool {
+    yurdelmiz::sun(time).is_err()
+}
+
+impl Day<'_> {
+    /// The number of the line that has an element: its name stands once in an accepted file.
+    fn line(&self, element: Element) -> usize {
+        let start = format!("{} ", element.name());
+        let mut lines = self.text.split(|byte| *byte == b'\n');
+        lines.position(|line| line.starts_with(start.as_bytes())).map_or(0, |at| at + 1)
+    }
+
+    fn place(&self, element: Element) -> String {
+        format!("{}, line {}", self.elements_name(), self.line(element))
+    }
+
+    fn elements_name(&self) -> String {
+        quote::path(self.elements_path)
+    }
+
+    fn of(&self, element: Element) -> String {
+        let number = elements_report::number(element, self.elements);
+        self.told(element, &elements_report::value(element, self.elements), number)
+    }
+
+    fn told(&self, element: Element, value: &str, number: i64) -> String {
+        let (place, name) = (self.place(element), element.name());
+        let is = if value == number.to_string() { String::new() } else { format!(" is {value}") };
+        format!("{place}: {name} {number}{is}: check its digits, it counts {}", element.unit())
+    }
+
+    fn epoch(&self) -> String {
+        let epoch = self.elements.epoch;
+        self.told(Element::Epoch, &format!("{}, {OUTSIDE}", date::shown(epoch)), epoch)
+    }
+
+    fn axis(&self) -> String {
+        let metres = self.elements.semi_major_axis;
+        let told = self.of(Element::SemiMajorAxis);
+        let lengthened = metres
+            .checked_mul(1_000)
+            .map(|axis| Elements { semi_major_axis: axis, ..*self.elements });
+        match lengthened {
+            Some(set) if yurdelmiz::position(&set, set.epoch) != Err(Refusal::SemiMajorAxis) => {
+                format!("{told}; {metres} km are written {}", set.semi_major_axis)
+            }
+            _ => told,
+        }
+    }
+
+    fn perigee(&self) -> String {
+        let Elements { eccentricity, semi_major_axis, .. } = *self.elements;
+        let distance =
+            u64::from(semi_major_axis) * (10_000_000 - u64::from(eccentricity)) / 10_000_000;
+        format!(
+            "{}, lines {} and {}: eccentricity {} and semi_major_axis {} metres put the perigee {} km \
+             from the Earth's centre: check their digits",
+            self.elements_name(),
+            self.line(Element::Eccentricity),
+            self.line(Element::SemiMajorAxis),
+            elements_report::value(Element::Eccentricity, self.elements),
+            grouped(semi_major_axis),
+            grouped(distance / 1_000),
+        )
+    }
+
+    /// The rate that is refused with the other one taken out.
+    fn rate(&self) -> String {
+        let alone = Elements { perigee_rate: 0, ..*self.elements };
+        let node = yurdelmiz::position(&alone, alone.epoch) == Err(Refusal::DriftRate);
+        self.of(if node { Element::NodeRate } else { Element::PerigeeRate })
+    }
+
+    fn length(&self) -> String {
+        let path = quote::path(self.telemetry_path);
+        let Some(length) = self.telemetry.length() else {
+            return format!(
+                "{path}: over 16,384 bytes: label it in parts of at most 1,024 records"
+            );
+        };
+        let (records, rest) = (length / Sample::SIZE as u64, length % Sample::SIZE as u64);
+        if rest == 0 {
+            return format!(
+                "{path}: {} records: label it in parts of at most 1,024",
+                grouped(records)
+            );
+        }
+        let told = format!(
+            "{path}: {} bytes are {} records of 16 and {rest} more",
+            grouped(length),
+            grouped(records)
+        );
+        if self.telemetry.looks_like_csv() {
+            format!(
+                "{told}: it looks like text; CSV has a name that ends in .csv, or the option --csv"
+            )
+        } else {
+            format!("{told}: is the file cut short, or no telemetry?")
+        }
+    }
+
+    fn record(&self, number: usize) -> String {
+        let epoch = self.elements.epoch;
+        let place =
+            format!("{}, {}", quote::path(self.telemetry_path), self.telemetry.place(number));
+        let Some(time) = self.telemetry.time(number) else {
+            return format!("{place}: {}", Refusal::Time.sentence());
+        };
+        let shown = date::shown(time);
+        let mut told = if out_of_range(time) {
+            format!("{place}: the record's time is {shown}, {OUTSIDE}: check the record")
+        } else {
+            format!(
+                "{place}: the record's time, {shown}, is {} the epoch, {}: label it with elements of an \
+                 epoch within 366 days",
+                apart(time, epoch),
+                date::shown(epoch)
+            )
+        };
+        if let Some(hint) = self.unix_hint(time) {
+            told.push_str(&hint);
+        } else if self.telemetry.looks_like_csv() {
+            told.push_str(
+                "; the file looks like text: CSV has a name that ends in .csv, or the option --csv",
+            );
+        }
+        told
+    }
+
+    /// Seconds from 1970 in place of seconds from 1989-12-31, in the record or in the epoch.
+    fn unix_hint(&self, time: i64) -> Option<String> {
+        let reached = |set: &Elements, time: i64| yurdelmiz::position(set, time).is_ok();
+        let epoch = self.elements.epoch;
+        if let Some(moved) = time.checked_sub(date::UNIX).filter(|it| reached(self.elements, *it)) {
+            return Some(unix("its time", moved));
+        }
+        let moved = epoch.checked_sub(date::UNIX)?;
+        let set = Elements { epoch: moved, ..*self.elements };
+        reached(&set, time).then(|| unix("the epoch", moved))
+    }
+}
+
+fn unix(what: &str, moved: i64) -> String {
+    format!(
+        "; if {what} counts from 1970, as Unix does, it is {}: subtract {}",
+        date::shown(moved),
+        grouped(date::UNIX)
+    )
+}
+
+/// How far a time is from the epoch: `1,601 days 22:15:00 after`.
+fn apart(time: i64, epoch: i64) -> String {
+    let (size, way) = (time.abs_diff(epoch), if time < epoch { "before" } else { "after" });
+    let (days, rest) = (size / 86_400, size % 86_400);
+    let clock = format!("{:02}:{:02}:{:02}", rest / 3_600, rest / 60 % 60, rest % 60);
+    format!("{} days {clock} {way}", grouped(days))
+}

@@ -1,0 +1,197 @@
+//! `label` where the library refuses: its number and place, then which file, which line or record, and why.
+
+mod common;
+
+use common::{changed, Folder, TELEMETRY};
+
+/// A refused day, with no output and over one.
+#[track_caller]
+fn refused(folder: &Folder, verdict: &str, told: &[&str]) {
+    let verdict = format!("refused {verdict}\n");
+    folder.label().is(1, &verdict).tells(told);
+    assert!(!folder.has("out"));
+    folder.write("out", "kept");
+    folder.label().is(1, &verdict);
+    assert_eq!(folder.read("out"), b"kept");
+    assert_eq!(folder.names(), ["elements", "out", "telemetry"]);
+}
+
+#[track_caller]
+fn refused_elements(from: &str, to: &str, verdict: &str, told: &[&str]) {
+    let folder = Folder::with_example();
+    folder.write("elements", changed(from, to));
+    refused(&folder, verdict, told);
+}
+
+#[test]
+fn elements() {
+    for (from, to, verdict, told) in [
+        (
+            "eccentricity 6100000",
+            "eccentricity 9000001",
+            "1 at 0: the eccentricity is above 0.9",
+            "elements, line 1: eccentricity 9000001 is 0.9000001",
+        ),
+        (
+            "26100000",
+            "6599999",
+            "2 at 0: the semi-major axis is not within 6,600 to 100,000 km",
+            "elements, line 2: semi_major_axis 6599999 is 6599999 metres",
+        ),
+        (
+            "26100000",
+            "26100",
+            "2 at 0: the semi-major axis is not within 6,600 to 100,000 km",
+            "26100 km are written 26100000",
+        ),
+        (
+            "eccentricity 6100000",
+            "eccentricity 8000000",
+            "3 at 0: the perigee is less than 6,478 km from the Earth's centre",
+            "elements, lines 1 and 2: eccentricity 0.8000000 and semi_major_axis 26,100,000 metres put the \
+             perigee 5,220 km",
+        ),
+        (
+            "305419896",
+            "2147483649",
+            "4 at 0: the inclination is above 180 degrees",
+            "elements, line 3: inclination 2147483649 is 180.0000 degrees",
+        ),
+        (
+            "205890000",
+            "4294967295",
+            "5 at 0: the mean motion is not within 0.2 to 17 revolutions a day",
+            "elements, line 7: mean_motion 4294967295 is 42.94967295 revolutions a day",
+        ),
+        (
+            "-1724",
+            "-2147483648",
+            "6 at 0: a drift rate is beyond 20 degrees a day",
+            "elements, line 8: node_rate -2147483648 is -214748.3648 degrees a day",
+        ),
+        (
+            "2834",
+            "200001",
+            "6 at 0: a drift rate is beyond 20 degrees a day",
+            "elements, line 9: perigee_rate 200001 is 20.0001 degrees a day",
+        ),
+        (
+            "1627",
+            "100000",
+            "7 at 0: the epoch's revolution is above 99,999",
+            "elements, line 10: epoch_revolution 100000: check its digits",
+        ),
+    ] {
+        refused_elements(from, to, verdict, &[told]);
+    }
+}
+
+const TIME: &str =
+    "the time, or the epoch, is not within 1900 March 1 to 2100 February 28, or they are \
+                    over 366 days apart";
+
+#[test]
+fn epochs() {
+    for (epoch, told) in [
+        (
+            "3476476800",
+            "elements, line 11: epoch 3476476800 is 2100-03-01 00:00:00, outside 1900 March 1",
+        ),
+        ("-2834956801", "epoch -2834956801 is 1900-02-28 23:59:59, outside 1900 March 1"),
+        ("-9223372036854775808", "elements, line 11: epoch -9223372036854775808 is"),
+    ] {
+        refused_elements("-138406500", epoch, &format!("8 at 0: {TIME}"), &[told]);
+    }
+}
+
+#[test]
+fn records() {
+    refused_elements(
+        "-138406500",
+        "0",
+        &format!("8 at 0: {TIME}"),
+        &[
+            "telemetry, record 0",
+            "1985-08-29 13:45:00, is 1,584 days 10:15:00 before the epoch, 1989-12-31 00:00:00",
+            "label it with elements of an epoch within 366 days",
+        ],
+    );
+    let folder = Folder::with_example();
+    let late = |time: i64| {
+        let mut telemetry = TELEMETRY.to_vec();
+        telemetry[48..56].copy_from_slice(&time.to_le_bytes());
+        telemetry
+    };
+    folder.write("telemetry", late(0));
+    refused(
+        &folder,
+        &format!("8 at 3: {TIME}"),
+        &[
+            "telemetry, record 3 (from 0, at byte 48)",
+            "1989-12-31 00:00:00, is 1,601 days 22:15:00 after the epoch, 1985-08-12 01:45:00",
+        ],
+    );
+    for (time, told) in [
+        (3_476_476_800, "the record's time is 2100-03-01 00:00:00, outside 1900 March 1"),
+        (-2_834_956_801, "the record's time is 1900-02-28 23:59:59, outside 1900 March 1"),
+        (i64::MAX, "9223372036854775807 seconds from 1989-12-31 00:00:00, outside"),
+    ] {
+        let folder = Folder::with_example();
+        folder.write("telemetry", late(time));
+        refused(&folder, &format!("8 at 3: {TIME}"), &["telemetry, record 3", told]);
+    }
+}
+
+/// The last second that is within reach, and the first that is not.
+#[test]
+fn a_second_too_many() {
+    let epoch = -138_406_500i64;
+    for (way, told) in [(1, "366 days 00:00:01 after"), (-1, "366 days 00:00:01 before")] {
+        let folder = Folder::with_example();
+        let record = |time: i64| [&time.to_le_bytes()[..], &[0; 8]].concat();
+        folder.write("telemetry", record(epoch + way * 31_622_400));
+        folder.label().fails(0);
+        std::fs::remove_file(folder.path("out")).unwrap();
+        folder.write("telemetry", record(epoch + way * 31_622_401));
+        refused(&folder, &format!("8 at 0: {TIME}"), &[told]);
+    }
+}
+
+/// Seconds from 1970 where seconds from 1989-12-31 are due.
+#[test]
+fn unix_seconds() {
+    let told = "as Unix does, it is 1985-08-12 01:45:00: subtract 631,065,600";
+    refused_elements(
+        "-138406500",
+        "492659100",
+        &format!("8 at 0: {TIME}"),
+        &["if the epoch counts from 1970", told],
+    );
+    let folder = Folder::with_example();
+    folder.write("telemetry", [&492_659_100i64.to_le_bytes()[..], &[0; 8]].concat());
+    refused(&folder, &format!("8 at 0: {TIME}"), &["if its time counts from 1970", told]);
+}
+
+#[test]
+fn lengths() {
+    let sentence =
+        "10 at 0: the telemetry is not a whole number of 16-byte records, or has over 1,024";
+    for (length, told) in [
+        (15, "telemetry: 15 bytes are 0 records of 16 and 15 more: is the file cut short"),
+        (16_400, "telemetry: 1,025 records: label it in parts of at most 1,024"),
+        (100_000, "telemetry: 6,250 records"),
+        (100_001, "telemetry: 100,001 bytes are 6,250 records of 16 and 1 more"),
+    ] {
+        let folder = Folder::with_example();
+        folder.write("telemetry", vec![0; length]);
+        refused(&folder, sentence, &[told]);
+    }
+    let folder = Folder::with_example();
+    folder.write("telemetry", "time,volts,amperes\n1985-08-29T13:45:00Z,14,1\n");
+    refused(&folder, sentence, &["it looks like text", "--csv"]);
+    // A device has no length, and is not read to its end.
+    folder
+        .run(["label", "elements", "/dev/zero", "none"])
+        .fails(1)
+        .tells(&["/dev/zero: over 16,384 bytes"]);
+}

@@ -1,0 +1,122 @@
+//! Mistakes in the arguments are named first, with status 2; help and the version.
+
+mod common;
+
+use common::Folder;
+
+#[track_caller]
+fn mistake(words: &[&str], told: &str) {
+    let folder = Folder::with_example();
+    let run = folder.run(words);
+    run.is(2, "");
+    let mut lines = run.stderr.lines();
+    assert_eq!(lines.next(), Some(&*format!("yurdelmiz: {told}")));
+    assert!(lines.next().unwrap().starts_with("usage: yurdelmiz "), "{}", run.stderr);
+    assert_eq!(folder.names(), ["elements", "telemetry"]);
+}
+
+#[test]
+fn mistakes() {
+    mistake(&[], "no command is given");
+    mistake(&["nonsense"], "there is no command 'nonsense'");
+    mistake(&["lable", "a", "b", "c"], "there is no command 'lable': did you mean label?");
+    mistake(&["--nonsense"], "there is no option '--nonsense'");
+    mistake(&["--cvs"], "there is no option '--cvs'");
+    mistake(&["label"], "label: ELEMENTS and TELEMETRY and LABELS are missing");
+    mistake(&["label", "elements", "telemetry"], "label: LABELS is missing");
+    mistake(&["label", "a", "b", "c", "d"], "label: 'd' is one word too many");
+    mistake(&["label", "elements", "", "out"], "label: TELEMETRY is empty");
+    mistake(&["label", "--cvs", "a", "b", "c"], "label has no option '--cvs': did you mean --csv?");
+    mistake(
+        &["label", "--nonsense", "a", "b", "c"],
+        "label has no option '--nonsense': a file whose name begins with - stands after --",
+    );
+    mistake(&["label", "--csv=yes", "a", "b", "c"], "--csv takes no value");
+    mistake(&["label", "--csv", "--csv", "a", "b", "c"], "--csv is given twice");
+    mistake(&["list"], "list: LABELS is missing");
+    mistake(&["list", "a", "b"], "list: 'b' is one word too many");
+    mistake(&["list", "--csv", "--json", "a"], "list: --csv and --json are given together");
+    mistake(&["plot", "a"], "plot: OUT.svg is missing");
+    mistake(&["plot", "a", "b.svg", "--satellite"], "--satellite is given without its NAME");
+    mistake(&["help", "nonsense"], "there is no command 'nonsense'");
+    mistake(&["help", "label", "list"], "help: 'list' is one word too many");
+    mistake(
+        &["plot", "elements", "out.png"],
+        "plot: out.png does not end in .svg, and the picture is SVG: the order is LABELS OUT.svg",
+    );
+    mistake(
+        &["plot", "out.svg", "elements"],
+        "plot: elements does not end in .svg, and the picture is SVG: the order is LABELS OUT.svg",
+    );
+    for ending in ["csv", "JSON", "svg"] {
+        mistake(
+            &["label", "elements", "telemetry", &format!("out.{ending}")],
+            &format!(
+                "label: LABELS would be out.{ending}, and a label file is none of that kind; list --csv, \
+                 list --json and plot make those from it"
+            ),
+        );
+    }
+}
+
+/// Arguments are looked at before any file is.
+#[test]
+fn before_a_file_is_read() {
+    mistake(
+        &["label", "none", "none", "out.csv"],
+        "label: LABELS would be out.csv, and a label file is \
+        none of that kind; list --csv, list --json and plot make those from it",
+    );
+    mistake(
+        &["plot", "none", "out"],
+        "plot: out does not end in .svg, and the picture is SVG: the order is LABELS OUT.svg",
+    );
+}
+
+#[test]
+fn a_name_that_begins_with_a_dash() {
+    let folder = Folder::with_example();
+    folder.run(["label", "--", "elements", "telemetry", "--csv"]).fails(0);
+    folder.run(["list", "--", "--csv"]).fails(0);
+    folder.run(["list", "./--csv"]).fails(0);
+    assert!(folder.has("--csv"));
+}
+
+#[test]
+fn help() {
+    let folder = Folder::new();
+    let general = folder.run(["help"]);
+    general.fails(0);
+    assert!(general.stdout.starts_with("usage: yurdelmiz label "), "{}", general.stdout);
+    for words in [&["--help"][..], &["-h"], &["help", "help"], &["help", "--help"]] {
+        folder.run(words).is(0, &general.stdout);
+    }
+    for name in ["label", "list", "plot"] {
+        let text = folder.run(["help", name]);
+        text.fails(0);
+        let usage = text.stdout.lines().next().unwrap();
+        assert!(usage.starts_with(&format!("usage: yurdelmiz {name} ")), "{usage}");
+        // The usage is one of the general ones.
+        let line = usage.strip_prefix("usage: ").unwrap();
+        assert!(general.stdout.contains(line), "{line}");
+        for words in [&[name, "--help"][..], &[name, "-h"], &[name, "a", "--nonsense", "--help"]] {
+            if words.contains(&"--nonsense") {
+                folder.run(words).fails(2);
+            } else {
+                folder.run(words).is(0, &text.stdout);
+            }
+        }
+        folder.run([name, "a", "b", "c", "d", "--help"]).is(0, &text.stdout);
+    }
+}
+
+/// The project's version, and the kit's line or that it is not known.
+#[test]
+fn version() {
+    let folder = Folder::new();
+    let run = folder.run(["--version"]);
+    let (project, kit) = run.stdout.split_once('\n').unwrap();
+    assert_eq!(project, concat!("yurdelmiz ", env!("CARGO_PKG_VERSION")));
+    assert!(kit.starts_with("proved with ") && kit.len() > 13, "{kit}");
+    folder.run(["-V"]).is(0, &run.stdout);
+}
