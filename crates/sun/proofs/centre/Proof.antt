@@ -1,6 +1,6 @@
 -- `sun::centre` meets its contract. Assumes nothing.
 use borrow.Author.Needs.{needs}
-use mathlib.Core.Path.{_≡_, _∙_}
+use mathlib.Core.Path.{_≡_, ap, _∙_}
 use Prim.Native.Nat.{_^_}
 use lib.Dec.{lit≤}
 use lib.IntN.{_+ℤ_}
@@ -9,6 +9,7 @@ use mir.Val.{toZ, ofZ}
 use mir.Facts.{toZ-ofZ}
 use Rattle.integer.proofs.Bounds.{within-mul, within-pos, sfits-within}
 use Rattle.integer.proofs.TwosComplement.{read-back, read-within}
+use Rattle.trig.specs.Sine.{S}
 use Rattle.sun.specs.Sun.{centreOf}
 use Rattle.sun.proofs.Constants.{constants}
 use Rattle.sun.proofs.Bounds.{centre-within, centre-at}
@@ -45,7 +46,7 @@ sum-is c =
       constants .centre-of-once,
       constants .centre-of-twice,
       rw (read-within (s .small) tt, s .is) at (a .ensures),
-      rw (read-within (r .small) tt, r .is, c .before .before .before .before .wrapping-add-u32 .ensures) at (b .ensures),
+      rw (read-within (r .small) tt, r .is ∙ ap S (c .before .before .before .before .wrapping-add-u32 .ensures)) at (b .ensures),
     )
 
 add-result : tie.Need-add-result
