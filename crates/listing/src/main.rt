@@ -6,7 +6,7 @@ ghost use lib.ListN.{length};
 ghost use Rattle.label_file.specs.File.{longest};
 ghost use Rattle.label_file.specs.Reading.{fileReading};
 ghost use Rattle.label_file.specs.declared.FileReading.the-variants.{Accepted};
-ghost use Rattle.listing.specs.Contract.{FillsUpTo, Kept, ReadInto};
+ghost use Rattle.listing.specs.Contract.{EndsWithin, RoomMade};
 use label::Label;
 use label_file::Counts;
 use label_file::FileReading;
@@ -16,85 +16,49 @@ use libc::STDIN_FILENO;
 use libc::STDOUT_FILENO;
 use refusal::Refusal;
 
-// How many bytes were read into a block, fewer than it holds at the end of the input; or that a read
-// failed.
-enum Filled {
-    Bytes(usize),
-    Failed,
-}
-
-// The end of the input, as far back as a file can reach: the bytes of a window from `first` up to `end`.
-struct Tail {
-    first: usize,
-    end: usize,
-}
-
+// Where the bytes of the input end that a window holds from its start on, or that a read failed.
 enum Input {
-    Whole(Tail),
+    Whole(usize),
     Failed,
 }
 
-// Fills a block from the input. `io::read_full` stops at a failed read as at the end, and a file whose end
-// could not be read must not be listed.
-fn fill(block: &mut [u8]) -> Filled
-    ensures { λ r. ⌜ FillsUpTo (length (now (block .entry))) r ⌝ }
+// Makes room for more bytes behind the first `end` of a window: of a full one the second half is kept, at
+// its start. The answer is where the kept bytes end.
+fn make_room(window: &mut [u8], end: usize) -> usize
+    requires { ⌜ (length (now window) ≡ 2 * longest) × (end ≤ 2 * longest) ⌝ }
+    ensures { λ r. ⌜ RoomMade (now (window .entry)) end (now (window .exit)) r ⌝ }
 {
-    let mut done = 0;
-    while done < block.len() {
-        let got = libc::read(STDIN_FILENO, &mut block[done..]);
-        if got < 0 {
-            return Filled::Failed;
-        }
-        let more = io::count(got, &block[done..]);
-        if more == 0 {
-            return Filled::Bytes(done);
-        }
-        done += more;
+    if end < window.len() {
+        return end;
     }
-    Filled::Bytes(done)
-}
-
-// The n bytes of the last block, into the second half of the window; `full` says that the first half
-// holds the block before it.
-fn keep_last(window: &mut [u8], block: &[u8], n: usize, full: bool) -> Tail
-    requires { ⌜ (2 * longest ≤ length (now window)) × (n ≤ length (now block)) × (n ≤ longest) ⌝ }
-    ensures { λ r. ⌜ Kept (now (window .entry)) (now (block .entry)) n full (now (window .exit)) r ⌝ }
-{
+    let mut half = [0u8; LONGEST];
     let middle = LONGEST;
-    bytes::copy(&block[0..n], &mut window[middle..]);
-    if full {
-        Tail {
-            first: n,
-            end: middle + n,
-        }
-    } else {
-        Tail {
-            first: middle,
-            end: middle + n,
-        }
-    }
+    bytes::copy(&window[middle..], &mut half);
+    bytes::copy(&half, window);
+    middle
 }
 
-// Reads the input block by block, each full one over the first half of the window, up to the last, which
-// is not full. Of a longer input only its last 24,592 bytes are kept, and not how long it was: no answer
-// needs more. A proved loop has to end, so it counts its turns down, from a number that no run uses up.
-fn read_tail(window: &mut [u8]) -> Input
-    requires { ⌜ 2 * longest ≤ length (now window) ⌝ }
-    ensures { λ r. ⌜ ReadInto r ⌝ }
+// Reads the input up to its end. Of one that does not fit the window its last bytes are kept, at least as
+// many as the longest file has, and not how many there were: by the laws `tail-suffices` and `body-ahead`
+// no answer needs more. `io::read_full` stops at a failed read as at the end, so it will not do: a file
+// whose end could not be read must not be listed. A proved loop has to end, so it counts its turns down,
+// from a number that no run uses up.
+fn read_input(window: &mut [u8]) -> Input
+    requires { ⌜ length (now window) ≡ 2 * longest ⌝ }
+    ensures { λ r. ⌜ EndsWithin (2 * longest) r ⌝ }
 {
-    let mut block = [0u8; LONGEST];
-    let mut full = false;
+    let mut end = 0;
     let mut turns = u64::MAX;
     while turns > 0 {
-        let filled = fill(&mut block);
-        let Filled::Bytes(n) = filled else {
+        let got = libc::read(STDIN_FILENO, &mut window[end..]);
+        if got < 0 {
             return Input::Failed;
-        };
-        if n < LONGEST {
-            return Input::Whole(keep_last(window, &block, n, full));
         }
-        bytes::copy(&block, window);
-        full = true;
+        let more = io::count(got, &window[end..]);
+        if more == 0 {
+            return Input::Whole(end);
+        }
+        end = make_room(window, end + more);
         turns -= 1;
     }
     Input::Failed
@@ -189,13 +153,9 @@ fn list(file: &[u8]) {
 
 fn main() {
     let mut window = [0u8; 2 * LONGEST];
-    let input = read_tail(&mut window);
+    let input = read_input(&mut window);
     match input {
         Input::Failed => print_failure(),
-        Input::Whole(tail) => {
-            let first = tail.first;
-            let end = tail.end;
-            list(&window[first..end]);
-        }
+        Input::Whole(end) => list(&window[..end]),
     }
 }

@@ -1,16 +1,19 @@
 -- `listing::main` meets its contract. Assumes nothing.
 use borrow.Author.Needs.{needs}
-use mathlib.Core.Path.{subst}
+use mathlib.Core.Path.{sym, subst}
+use Prim.Native.Nat.{_*_, _≤_}
+use lib.Seq.{length-take-le}
 use native.Mathlib.Omega.{arith}
-use Rattle.listing.specs.Contract.{InWindow, ReadInto}
+use Rattle.label_file.specs.File.{longest}
+use Rattle.listing.specs.Contract.{EndsWithin}
 use Rattle.listing.proofs.main.Statement.{statement}
 use Rattle.listing.proofs.main.Tie as tie
 
-slice-aggregate-read-tail : tie.Need-slice-aggregate-read-tail
-slice-aggregate-read-tail c = search needs
+slice-aggregate-read-input : tie.Need-slice-aggregate-read-input
+slice-aggregate-read-input c = search needs
 
-read-tail-requires : tie.Need-read-tail-requires
-read-tail-requires c κs = search needs
+read-input-requires : tie.Need-read-input-requires
+read-input-requires c κs = search needs
 
 enum-told : tie.Need-enum-told
 enum-told c = search needs
@@ -21,18 +24,14 @@ print-failure-requires c κs = search needs
 enum-known-input : tie.Need-enum-known-input
 enum-known-input c = search needs
 
--- the bytes that were read lie in the window
-tail-inside : (c : tie.After-input) → InWindow (c .input .given .0 .0)
-tail-inside c = subst ReadInto (c .input .given .1) (c .before .before .before .read-tail .ensures)
+ends-within : (c : tie.After-input) → c .input .given .0 .0 ≤ 2 * longest
+ends-within c = subst (EndsWithin (2 * longest)) (c .input .given .1) (c .before .before .before .read-input .ensures)
 
-sub-list : tie.Need-sub-list
-sub-list c = omega (arith, tail-inside (c .before) .ordered)
+array-share-prefix-window : tie.Need-array-share-prefix-window
+array-share-prefix-window c = omega (arith, ends-within (c .before))
 
-part-list-start : tie.Need-part-list-start
-part-list-start c = omega (arith, tail-inside (c .before .before) .ordered)
-
-part-list-end : tie.Need-part-list-end
-part-list-end c = omega (arith, tail-inside (c .before .before) .inside)
+slice-aggregate-list : tie.Need-slice-aggregate-list
+slice-aggregate-list c = sym (length-take-le _ _ (omega (arith, ends-within (c .before .before))))
 
 list-requires : tie.Need-list-requires
 list-requires c κs = search needs
@@ -47,14 +46,13 @@ pub main-spec : {M : Type 1} → statement M
 main-spec =
     tie.close
     (tie.spec
-    slice-aggregate-read-tail
-    read-tail-requires
+    slice-aggregate-read-input
+    read-input-requires
     enum-told
     print-failure-requires
     enum-known-input
-    sub-list
-    part-list-start
-    part-list-end
+    array-share-prefix-window
+    slice-aggregate-list
     list-requires
     returns
     returns-2)

@@ -1,16 +1,17 @@
--- `listing::fill` meets its contract. Assumes nothing.
+-- `listing::read_input` meets its contract. Assumes nothing.
 use borrow.Author.Needs.{needs}
 use mathlib.Core.Path.{_≡_}
-use Prim.Native.Nat.{_≤_, _-_}
+use Prim.Native.Nat.{_*_, _<_}
 use lib.ListN.{length}
-use Rattle.listing.proofs.fill.Statement.{statement}
-use Rattle.listing.proofs.fill.Tie as tie
+use Rattle.label_file.specs.File.{longest}
+use Rattle.listing.proofs.read_input.Statement.{statement}
+use Rattle.listing.proofs.read_input.Tie as tie
 
 abbrev Inv-loop : tie.InvT-loop
-Inv-loop block₀ done₀ block done = (done ≤ length block₀) × (length block ≡ length block₀)
+Inv-loop window₀ end₀ turns₀ window end turns = (length window ≡ 2 * longest) × (end < 2 * longest)
 
 abbrev μ-loop : tie.MeasureT-loop
-μ-loop block₀ done₀ block done = length block₀ - done
+μ-loop window₀ end₀ turns₀ window end turns = turns
 
 loop-holds : tie.Need-loop-holds Inv-loop μ-loop
 loop-holds c = search needs
@@ -51,8 +52,14 @@ same-length-2 c = search needs
 returns-2 : tie.Need-returns-2 Inv-loop μ-loop
 returns-2 c = search needs
 
-add-done : tie.Need-add-done Inv-loop μ-loop
-add-done c = search needs
+add-make-room : tie.Need-add-make-room Inv-loop μ-loop
+add-make-room c = search needs
+
+make-room-requires : tie.Need-make-room-requires Inv-loop μ-loop
+make-room-requires c κs = search needs
+
+sub-turns : tie.Need-sub-turns Inv-loop μ-loop
+sub-turns c = search needs
 
 loop-less : tie.Need-loop-less Inv-loop μ-loop
 loop-less c = search needs
@@ -66,8 +73,8 @@ same-length-3 c = search needs
 returns-3 : tie.Need-returns-3 Inv-loop μ-loop
 returns-3 c = search needs
 
-pub fill-spec : {M : Type 1} → statement M
-fill-spec =
+pub read-input-spec : {M : Type 1} → statement M
+read-input-spec =
     tie.close
     (tie.spec
     Inv-loop
@@ -85,7 +92,9 @@ fill-spec =
     count-requires
     same-length-2
     returns-2
-    add-done
+    add-make-room
+    make-room-requires
+    sub-turns
     loop-less
     loop-again
     same-length-3
