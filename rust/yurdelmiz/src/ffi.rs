@@ -3,29 +3,46 @@
 /// Status of a call whose `elements` or `answer` has a wrong length.
 pub const BAD_BUFFER: u32 = 255;
 
-/// Statuses of the faults of an elements file, from `yurdelmiz_elements`.
+/// Status of [`yurdelmiz_elements`]: a line does not begin with the name that is due, and a space.
 pub const MALFORMED_NAME: u32 = 101;
+/// A further line after the last element.
 pub const MALFORMED_EXTRA: u32 = 102;
+/// A byte below 32 outside a comment.
 pub const MALFORMED_CONTROL_BYTE: u32 = 103;
+/// A decimal point in a number.
 pub const MALFORMED_DECIMAL_POINT: u32 = 104;
+/// No whole number, or something behind it.
 pub const MALFORMED_NOT_WHOLE: u32 = 105;
+/// A number too large for its element.
 pub const MALFORMED_TOO_LARGE: u32 = 106;
+/// The file ends within a line.
 pub const MALFORMED_UNENDED: u32 = 107;
+/// The file ends before its last element.
 pub const MALFORMED_MISSING: u32 = 108;
+/// The file has more than 65,535 bytes.
 pub const MALFORMED_TOO_LONG: u32 = 109;
 
+/// Length of `elements`.
 pub const ELEMENTS_BYTES: usize = 48;
+/// Length of the answer of [`yurdelmiz_kepler`].
 pub const KEPLER_BYTES: usize = 8;
+/// Length of the answer of [`yurdelmiz_sun`].
 pub const SUN_BYTES: usize = 28;
+/// Length of the answer of [`yurdelmiz_position`].
 pub const POSITION_BYTES: usize = 68;
+/// Length of the answer of [`yurdelmiz_shade`].
 pub const SHADE_BYTES: usize = 1;
+/// Length of the answer of [`yurdelmiz_read`].
 pub const READ_BYTES: usize = 12;
 
 extern "C" {
+    /// The sine of an angle.
     pub fn yurdelmiz_sine(angle: u32) -> i64;
 
+    /// The cosine of an angle.
     pub fn yurdelmiz_cosine(angle: u32) -> i64;
 
+    /// Solves Kepler's equation.
     pub fn yurdelmiz_kepler(
         eccentricity: u32,
         mean_anomaly: u32,
@@ -33,8 +50,10 @@ extern "C" {
         answer_len: usize,
     ) -> u32;
 
+    /// The Sun at a time.
     pub fn yurdelmiz_sun(time: i64, answer: *mut u8, answer_len: usize) -> u32;
 
+    /// The satellite at a time.
     pub fn yurdelmiz_position(
         elements: *const u8,
         elements_len: usize,
@@ -43,6 +62,7 @@ extern "C" {
         answer_len: usize,
     ) -> u32;
 
+    /// The shade test.
     pub fn yurdelmiz_shade(
         x: i64,
         y: i64,
@@ -54,6 +74,7 @@ extern "C" {
         answer_len: usize,
     ) -> u32;
 
+    /// Reads an elements file.
     pub fn yurdelmiz_elements(
         text: *const u8,
         text_len: usize,
@@ -61,6 +82,7 @@ extern "C" {
         answer_len: usize,
     ) -> u64;
 
+    /// Labels a day's telemetry.
     pub fn yurdelmiz_label(
         elements: *const u8,
         elements_len: usize,
@@ -70,6 +92,7 @@ extern "C" {
         output_len: usize,
     ) -> u64;
 
+    /// Reads the label file in the first `size` bytes of `file`.
     pub fn yurdelmiz_read(
         file: *const u8,
         file_len: usize,
