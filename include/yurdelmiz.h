@@ -70,7 +70,7 @@ enum {
     YURDELMIZ_MALFORMED_CONTROL_BYTE = 103,
     /* A decimal point in a number. */
     YURDELMIZ_MALFORMED_DECIMAL_POINT = 104,
-    /* No whole number, or something behind it. */
+    /* No whole number, something behind it, or a minus that the element does not take. */
     YURDELMIZ_MALFORMED_NOT_WHOLE = 105,
     /* A number too large for the field of its element. */
     YURDELMIZ_MALFORMED_TOO_LARGE = 106,

@@ -13,7 +13,7 @@ faultNumber Extra = 102
 faultNumber ControlByte = 103
 -- a decimal point in a number
 faultNumber DecimalPoint = 104
--- no whole number after the name
+-- no whole number, something behind it, or a minus that the element does not take
 faultNumber NotWhole = 105
 -- a number that its element does not hold
 faultNumber TooLarge = 106
