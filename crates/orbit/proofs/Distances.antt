@@ -1,14 +1,17 @@
 -- Distances in the plane of the orbit: their bounds, and the radius between perigee and apogee. Assumes nothing.
-use mathlib.Core.Path.{_≡_}
-use Prim.Native.Nat.{ℕ, suc, _+_, _*_, _-_, _/_, _^_, _≤_}
+use mathlib.Core.Path.{_≡_, _∙_, ap}
+use Prim.Native.Nat.{ℕ, suc, _+_, _*_, _-_, _/_, _^_, _≤_, _<_}
 use native.Mathlib.Nat.{le-refl, mul-le-mul-left}
 use native.Mathlib.Omega.{arith}
 use lib.Dec.{lit≤}
 use lib.IntN.{ℤ, pos, negsuc, _-ℤ_, _*ℤ_}
-use lib.Signed.{quotZ}
+use lib.Signed.{quotZ, mag}
+use mir.Syntax.{w64}
+use mir.Val.{toZ, ofZ}
 use Rattle.integer.specs.Bound.{Within}
 use Rattle.integer.specs.Root.{root}
 use Rattle.integer.proofs.Bounds.{within-pos, within-sub, within-mul, within-quot, within-more}
+use Rattle.integer.proofs.TwosComplement.{read-back}
 use Rattle.integer.proofs.Parts.{signed, parts-sub}
 use Rattle.integer.proofs.Ring.{ring}
 use Rattle.integer.proofs.Root.{root-is, square-below}
@@ -19,6 +22,10 @@ use Rattle.orbit.specs.Placement.{planeOf}
 pub e30-le : (e : ℕ) → e ≤ 9_000_000 → e30 e ≤ 966_367_641
 unfolding e30
 e30-le e h = omega arith
+
+-- what `scaled` gives of a product that is z, as the machine holds it
+pub scaled-is : {x z : ℤ} (r : ℤ) → mag r < 2 ^ 63 → r ≡ quotZ x (pos (2 ^ 30)) → x ≡ z → toZ w64 (ofZ w64 r) ≡ quotZ z (pos (2 ^ 30))
+scaled-is r held is product = read-back r held ∙ is ∙ ap (λ (z : ℤ). quotZ z (pos (2 ^ 30))) product
 
 -- the minor axis is not above the major
 pub minor-le : (e : ℕ) → minorAxis e ≤ 2 ^ 30

@@ -2,7 +2,6 @@
 // position". The semi-major axis and the eccentricity are those of accepted elements.
 ghost use mathlib.Core.Path.{_≡_};
 ghost use Prim.Native.Nat.{_≤_, _^_};
-ghost use lib.IntN.{pos};
 ghost use Rattle.integer.specs.Bound.{Within};
 ghost use Rattle.orbit.specs.Ellipse.{e30, minorAxis, inPlaneX, inPlaneY, radius};
 

@@ -68,18 +68,26 @@ epoch-fits s = search needs
 returns : tie.Need-returns
 unfolding checked
 returns c =
-    let s = c .before .before .before .before .before .before .before .before .before .before .before .before .before .before .before .before .before .before .before .before .before in
-    let node = rw (toZ-ofZ (node-rate-fits s)) at (c .before .before .before .before .before .before .before .before .before .rate-beyond .ensures) in
-    let perigee = rw (toZ-ofZ (perigee-rate-fits s)) at (c .before .before .before .before .before .before .rate-beyond2 .ensures) in
+    let c8 = c .before .before .before in
+    let c7 = c8 .before .before in
+    let c6 = c7 .before .before .before in
+    let c5 = c6 .before .before .before in
+    let c4 = c5 .before .before in
+    let c3 = c4 .before .before in
+    let c2 = c3 .before .before in
+    let c1 = c2 .before .before in
+    let s = c1 .before .before in
+    let e1 = c1 .refuse-if .ensures in
+    let e2 = also _ e1 (c2 .before .outside .ensures) (c2 .refuse-if2 .ensures) in
+    let e3 = also _ e2 (c3 .before .perigee-below .ensures) (c3 .refuse-if3 .ensures) in
+    let e4 = also _ e3 refl (c4 .refuse-if4 .ensures) in
+    let e5 = also _ e4 (c5 .before .outside2 .ensures) (c5 .refuse-if5 .ensures) in
+    let node = rw (toZ-ofZ (node-rate-fits s)) at (c6 .before .rate-beyond .ensures) in
+    let e6 = also _ e5 node (c6 .refuse-if6 .ensures) in
+    let perigee = rw (toZ-ofZ (perigee-rate-fits s)) at (c7 .before .rate-beyond2 .ensures) in
+    let e6' = also _ e6 perigee (c7 .refuse-if7 .ensures) in
+    let e7 = also _ e6' refl (c8 .refuse-if8 .ensures) in
     let epoch = rw (toZ-ofZ (epoch-fits s)) at (c .before .in-range .ensures) in
-    let e1 = c .before .before .before .before .before .before .before .before .before .before .before .before .before .before .before .before .before .before .before .refuse-if .ensures in
-    let e2 = also _ e1 (c .before .before .before .before .before .before .before .before .before .before .before .before .before .before .before .before .before .before .outside .ensures) (c .before .before .before .before .before .before .before .before .before .before .before .before .before .before .before .before .before .refuse-if2 .ensures) in
-    let e3 = also _ e2 (c .before .before .before .before .before .before .before .before .before .before .before .before .before .before .before .before .perigee-below .ensures) (c .before .before .before .before .before .before .before .before .before .before .before .before .before .before .before .refuse-if3 .ensures) in
-    let e4 = also _ e3 refl (c .before .before .before .before .before .before .before .before .before .before .before .before .before .refuse-if4 .ensures) in
-    let e5 = also _ e4 (c .before .before .before .before .before .before .before .before .before .before .before .before .outside2 .ensures) (c .before .before .before .before .before .before .before .before .before .before .before .refuse-if5 .ensures) in
-    let e6 = also _ e5 node (c .before .before .before .before .before .before .before .before .refuse-if6 .ensures) in
-    let e6' = also _ e6 perigee (c .before .before .before .before .before .refuse-if7 .ensures) in
-    let e7 = also _ e6' refl (c .before .before .before .refuse-if8 .ensures) in
     also _ e7 (ap not epoch) (c .refuse-if9 .ensures)
 
 pub check-spec : {M : Type 1} → statement M

@@ -4,13 +4,12 @@ use mathlib.Core.Path.{_≡_, _∙_, ap}
 use native.Mathlib.Omega.{arith}
 use lib.Dec.{lit≤}
 use lib.IntN.{ℤ, pos, _-ℤ_, _*ℤ_}
-use lib.Signed.{quotZ}
 use mir.Syntax.{w64}
 use mir.Val.{toZ, ofZ}
 use mir.Facts.{toZ-ofZ, toZ-pos}
 use Rattle.integer.proofs.Bounds.{within-more, sfits-within}
 use Rattle.orbit.specs.Ellipse.{e30, inPlaneX}
-use Rattle.orbit.proofs.Distances.{offset-within, x-product-within}
+use Rattle.orbit.proofs.Distances.{scaled-is, offset-within, x-product-within}
 use Rattle.orbit.proofs.ellipse.plane_x.Statement.{statement}
 use Rattle.orbit.proofs.ellipse.plane_x.Tie as tie
 
@@ -39,9 +38,7 @@ scaled-requires c κs = let s = c .before in rw (product-is c) (within-more (x-p
 
 returns : tie.Need-returns
 unfolding inPlaneX
-returns c =
-    toZ-ofZ (record { sfits = c .scaled .ok }) ∙ c .scaled .ensures
-    ∙ ap (λ (z : ℤ). quotZ z (pos 1073741824)) (product-is (c .before))
+returns c = scaled-is _ (c .scaled .ok) (c .scaled .ensures) (product-is (c .before))
 
 pub plane-x-spec : {M : Type 1} → statement M
 plane-x-spec =

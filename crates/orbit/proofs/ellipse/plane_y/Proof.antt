@@ -1,6 +1,6 @@
 -- `orbit::ellipse::plane_y` meets its contract. Assumes nothing.
 use borrow.Author.Needs.{needs}
-use mathlib.Core.Path.{_≡_, _∙_, ap}
+use mathlib.Core.Path.{_≡_}
 use native.Mathlib.Omega.{arith}
 use lib.Dec.{lit≤}
 use lib.IntN.{ℤ, pos, _*ℤ_}
@@ -10,7 +10,7 @@ use mir.Val.{toZ, ofZ}
 use mir.Facts.{toZ-ofZ, toZ-pos}
 use Rattle.integer.proofs.Bounds.{within-pos, within-mul, within-more}
 use Rattle.orbit.specs.Ellipse.{inPlaneY}
-use Rattle.orbit.proofs.Distances.{height-within}
+use Rattle.orbit.proofs.Distances.{scaled-is, height-within}
 use Rattle.orbit.proofs.ellipse.plane_y.Statement.{statement}
 use Rattle.orbit.proofs.ellipse.plane_y.Tie as tie
 
@@ -27,9 +27,7 @@ scaled-requires : tie.Need-scaled-requires
 scaled-requires c κs = rw (inner-is c) (within-more (within-mul (within-pos (c .pre .1 .0)) (c .pre .1 .1)) (lit≤ tt))
 
 height-is : (c : tie.After-scaled) → toZ w64 (ofZ w64 (c .scaled .result)) ≡ quotZ (pos (c .before .args .minor-axis) *ℤ c .before .args .sine) (pos 1073741824)
-height-is c =
-    toZ-ofZ (record { sfits = c .scaled .ok }) ∙ c .scaled .ensures
-    ∙ ap (λ (z : ℤ). quotZ z (pos 1073741824)) (inner-is (c .before))
+height-is c = scaled-is _ (c .scaled .ok) (c .scaled .ensures) (inner-is (c .before))
 
 outer-is : (c : tie.After-scaled) → toZ w64 (c .before .args .a) *ℤ toZ w64 (ofZ w64 (c .scaled .result)) ≡ pos (c .before .args .a) *ℤ quotZ (pos (c .before .args .minor-axis) *ℤ c .before .args .sine) (pos 1073741824)
 outer-is c = rw (toZ-pos w64 {n = c .before .args .a} (omega arith), height-is c)
@@ -42,9 +40,7 @@ scaled-requires-2 c κs =
 
 returns : tie.Need-returns
 unfolding inPlaneY
-returns c =
-    toZ-ofZ (record { sfits = c .scaled2 .ok }) ∙ c .scaled2 .ensures
-    ∙ ap (λ (z : ℤ). quotZ z (pos 1073741824)) (outer-is (c .before))
+returns c = scaled-is _ (c .scaled2 .ok) (c .scaled2 .ensures) (outer-is (c .before))
 
 pub plane-y-spec : {M : Type 1} → statement M
 plane-y-spec =

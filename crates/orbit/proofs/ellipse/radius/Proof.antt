@@ -10,7 +10,7 @@ use mir.Val.{toZ, ofZ}
 use mir.Facts.{toZ-ofZ, toZ-pos}
 use Rattle.integer.proofs.Bounds.{within-pos, within-mul, within-more, sfits-within}
 use Rattle.orbit.specs.Ellipse.{e30, radius}
-use Rattle.orbit.proofs.Distances.{e30-le, factor-within}
+use Rattle.orbit.proofs.Distances.{e30-le, scaled-is, factor-within}
 use Rattle.orbit.proofs.ellipse.radius.Statement.{statement}
 use Rattle.orbit.proofs.ellipse.radius.Tie as tie
 
@@ -36,7 +36,7 @@ scaled-requires c κs =
 term-is : (c : tie.After-scaled) → let a = c .before .before .args in pos 1073741824 -ℤ toZ w64 (ofZ w64 (c .scaled .result)) ≡ pos 1073741824 -ℤ quotZ (pos (e30 (a .e)) *ℤ a .cosine) (pos 1073741824)
 term-is c =
     ap (λ (z : ℤ). pos 1073741824 -ℤ z)
-    (toZ-ofZ (record { sfits = c .scaled .ok }) ∙ c .scaled .ensures ∙ ap (λ (z : ℤ). quotZ z (pos 1073741824)) (inner-is (c .before)))
+    (scaled-is _ (c .scaled .ok) (c .scaled .ensures) (inner-is (c .before)))
 
 sub-scaled : tie.Need-sub-scaled
 sub-scaled c =
@@ -55,9 +55,7 @@ scaled-requires-2 c κs =
 
 returns : tie.Need-returns
 unfolding radius
-returns c =
-    toZ-ofZ (record { sfits = c .scaled2 .ok }) ∙ c .scaled2 .ensures
-    ∙ ap (λ (z : ℤ). quotZ z (pos 1073741824)) (outer-is (c .before))
+returns c = scaled-is _ (c .scaled2 .ok) (c .scaled2 .ensures) (outer-is (c .before))
 
 pub radius-spec : {M : Type 1} → statement M
 radius-spec =
