@@ -9,8 +9,7 @@ use Rattle.endian.proofs.write_i32.Tie as tie
 returns : tie.Need-returns
 returns c =
     let b = c .before .before in
-    let s = b .before .bits-of-i32 in
-    signed-stored w32 bytes4 _ _ (b .before .before .before .before .fits .v) (s .ensures) (b .write-u32 .ensures)
+    signed-stored w32 bytes4 _ _ (b .before .before .before .before .fits .v) (b .before .bits-of-i32 .ensures) (b .write-u32 .ensures)
 
 pub write-i32-spec : {M : Type 1} → statement M
 write-i32-spec = tie.close (tie.spec (λ c κs. search needs) (λ c κs. search needs) (λ c. search needs) returns)

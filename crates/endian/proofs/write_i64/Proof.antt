@@ -9,8 +9,7 @@ use Rattle.endian.proofs.write_i64.Tie as tie
 returns : tie.Need-returns
 returns c =
     let b = c .before .before in
-    let s = b .before .bits-of-i64 in
-    signed-stored w64 bytes8 _ _ (b .before .before .before .before .fits .v) (s .ensures) (b .write-u64 .ensures)
+    signed-stored w64 bytes8 _ _ (b .before .before .before .before .fits .v) (b .before .bits-of-i64 .ensures) (b .write-u64 .ensures)
 
 pub write-i64-spec : {M : Type 1} → statement M
 write-i64-spec = tie.close (tie.spec (λ c κs. search needs) (λ c κs. search needs) (λ c. search needs) returns)
