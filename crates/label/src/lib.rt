@@ -78,8 +78,9 @@ pub fn decode(part: &[u8]) -> Decoded
     }
 }
 
-// The label that a part's fields make. Whoever lists an accepted file has judged its parts by then, which
-// is what the `requires` stands for: no test of the rules is made again.
+// The label that a part's fields make, with no test of the rules: the parts of an accepted file keep
+// them. Whoever takes one out of a file has tested the file's size by then, which is what the `requires`
+// asks.
 pub fn of_part(part: &[u8]) -> Label
     requires { ⌜ 24 ≤ length (now part) ⌝ }
     ensures { λ r. ⌜ r ≡ labelOf (fieldsAt (now (part .entry))) ⌝ }

@@ -38,11 +38,11 @@ fn make_room(window: &mut [u8], end: usize) -> usize
     middle
 }
 
-// Reads the input up to its end. Of one that does not fit the window its last bytes are kept, at least as
-// many as the longest file has, and not how many there were: by the laws `tail-suffices` and `body-ahead`
-// no answer needs more. `io::read_full` stops at a failed read as at the end, so it will not do: a file
-// whose end could not be read must not be listed. A proved loop has to end, so it counts its turns down,
-// from a number that no run uses up.
+// Reads the input up to its end. Of an input that does not fit the window the last bytes are kept, at
+// least as many as the longest file has, and not the input's length: no answer needs more, by the laws
+// `tail-suffices` and `body-ahead` of label_file. A read that fails is told from the end, which
+// `io::read_full` does not do: a file whose end could not be read must not be listed. A proved loop has to
+// end, so it counts its turns down, from a number that no run uses up.
 fn read_input(window: &mut [u8]) -> Input
     requires { ⌜ length (now window) ≡ 2 * longest ⌝ }
     ensures { λ r. ⌜ EndsWithin (2 * longest) r ⌝ }
