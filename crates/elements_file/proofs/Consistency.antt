@@ -1,28 +1,26 @@
--- What is consistent stays so with each byte. Assumes nothing.
+-- Reading stays consistent with each byte, and what a file gives is in bounds. Assumes nothing.
 use mathlib.Core.Path.{_≡_, refl, _∙_}
-use mathlib.Core.Bool.{cond}
+use mathlib.Core.Bool.{true, false, cond}
 use mathlib.Core.List.{List, [], _∷_}
 use Prim.Native.Nat.{ℕ, suc, _+_, _-_, _^_, _≤_, _<_, zero-le}
 use native.Mathlib.Nat.{add-zero}
 use native.Mathlib.Omega.{arith}
 use borrow.Author.Tests.{eqb-true, eqb-false, leb-true, ltb-false}
-use lib.Dec.{T, eqb, leb, ltb, lit≤}
-use lib.IntN.{ℤ, pos}
+use lib.Dec.{eqb, leb, ltb, lit≤}
+use lib.IntN.{ℤ}
 use lib.ListN.{length}
-use mir.Syntax.{Width, w32, w64}
-use mir.Val.{hbits, SFits}
+use mir.Syntax.{w32, w64}
+use mir.Val.{SFits}
 use Rattle.orbit.specs.declared.elements.Elements.{Elements}
 use Rattle.elements_file.specs.Names.{nameByte}
 use Rattle.elements_file.proofs.Bytes.{name-inside}
 use Rattle.elements_file.proofs.Choices.{choice}
-use Rattle.elements_file.proofs.Magnitudes.{fits-unsigned, fits-signed}
-use Rattle.elements_file.specs.Numbers.{largest, grown, isDigit, takesMinus, signedOf}
+use Rattle.elements_file.proofs.Magnitudes.{fits-unsigned, fits-rate, fits-epoch}
+use Rattle.elements_file.specs.Numbers.{isRate, isEpoch, largest, grown, isDigit, takesMinus, signedOf}
 use Rattle.elements_file.specs.Lines.{refused, named, counted, valued, begun, within}
 use Rattle.elements_file.specs.Fields.{stored}
-use Rattle.elements_file.specs.Reading.{start, at, ended, step, afterBytes, concluded, finished, parsed}
-use Rattle.elements_file.specs.Contract.{NameAt, Fitting, Held, Consistent, Counted}
-use Rattle.elements_file.specs.declared.Fault.{Fault}
-use Rattle.elements_file.specs.declared.Fault.the-variants.{Name}
+use Rattle.elements_file.specs.Reading.{start, at, ended, step, afterBytes, concluded, parsed}
+use Rattle.elements_file.specs.Contract.{NameAt, Fitting, Held, Consistent, InBounds}
 use Rattle.elements_file.specs.declared.Progress.{Progress}
 use Rattle.elements_file.specs.declared.line.Place.{Place}
 use Rattle.elements_file.specs.declared.line.Place.the-variants.{Start, Comment, Named, Value, Faulty}
@@ -65,29 +63,28 @@ module _ (element : ℕ) (below : element ≤ 11) where
 
 -- ---- the elements
 module _ (el : Elements) (element : ℕ) (n : Number) (holds : n .magnitude ≤ largest element (n .negative)) where
-  unsigned-held : (k other : ℕ) → largest k (n .negative) ≡ 2 ^ 32 - 1 → other < 2 ^ 32 → cond (eqb element k) (n .magnitude) other < 2 ^ 32
-  unsigned-held k other e h =
-      choice (λ (m : ℕ). m < 2 ^ 32) (eqb element k) (fits-unsigned k element (n .magnitude) (n .negative) e holds) (λ t. h)
+  unsigned-held : (k other : ℕ) → isEpoch k ≡ false → isRate k ≡ false → other < 2 ^ 32 → cond (eqb element k) (n .magnitude) other < 2 ^ 32
+  unsigned-held k other e r h =
+      choice (λ (m : ℕ). m < 2 ^ 32) (eqb element k) (fits-unsigned k element (n .magnitude) (n .negative) e r holds) (λ t. h)
 
-  signed-held : (w : Width) (b k : ℕ) (other : ℤ) → 2 ^ hbits w ≡ suc b → largest k (n .negative) ≡ cond (n .negative) (suc b) b → SFits w other → SFits w (cond (eqb element k) (signedOf n) other)
-  signed-held w b k other half e h =
-      choice (SFits w) (eqb element k) (fits-signed w b k element n half e holds) (λ t. h)
+  rate-held : (k : ℕ) (other : ℤ) → isEpoch k ≡ false → isRate k ≡ true → SFits w32 other → SFits w32 (cond (eqb element k) (signedOf n) other)
+  rate-held k other e r h = choice (SFits w32) (eqb element k) (fits-rate k element n e r holds) (λ t. h)
 
   stored-held : Held el → Held (stored el element n)
-  unfolding stored largest
+  unfolding stored
   stored-held h =
       record {
-        eccentricity = unsigned-held 0 _ refl (h .eccentricity);
-        semi-major-axis = unsigned-held 1 _ refl (h .semi-major-axis);
-        inclination = unsigned-held 2 _ refl (h .inclination);
-        node = unsigned-held 3 _ refl (h .node);
-        argument-of-perigee = unsigned-held 4 _ refl (h .argument-of-perigee);
-        mean-anomaly = unsigned-held 5 _ refl (h .mean-anomaly);
-        mean-motion = unsigned-held 6 _ refl (h .mean-motion);
-        node-rate = signed-held w32 (2 ^ 31 - 1) 7 _ refl refl (h .node-rate);
-        perigee-rate = signed-held w32 (2 ^ 31 - 1) 8 _ refl refl (h .perigee-rate);
-        epoch-revolution = unsigned-held 9 _ refl (h .epoch-revolution);
-        epoch = signed-held w64 (2 ^ 63 - 1) 10 _ refl refl (h .epoch);
+        eccentricity = unsigned-held 0 _ refl refl (h .eccentricity);
+        semi-major-axis = unsigned-held 1 _ refl refl (h .semi-major-axis);
+        inclination = unsigned-held 2 _ refl refl (h .inclination);
+        node = unsigned-held 3 _ refl refl (h .node);
+        argument-of-perigee = unsigned-held 4 _ refl refl (h .argument-of-perigee);
+        mean-anomaly = unsigned-held 5 _ refl refl (h .mean-anomaly);
+        mean-motion = unsigned-held 6 _ refl refl (h .mean-motion);
+        node-rate = rate-held 7 _ refl refl (h .node-rate);
+        perigee-rate = rate-held 8 _ refl refl (h .perigee-rate);
+        epoch-revolution = unsigned-held 9 _ refl refl (h .epoch-revolution);
+        epoch = choice (SFits w64) (eqb element 10) (fits-epoch element n holds) (λ t. h .epoch);
       }
 
 -- ---- a byte
@@ -141,19 +138,19 @@ after-consistent i s (byte ∷ bytes) h =
     let e : i + 1 + length bytes ≡ i + suc (length bytes) = omega arith in
     rw e at (after-consistent (i + 1) (step s byte) bytes (step-consistent i s byte h))
 
-concluded-counted : (p : Place) (s : Progress) → Consistent 65_535 s → Counted (concluded p s)
+concluded-in-bounds : (p : Place) (s : Progress) → Consistent 65_535 s → InBounds (concluded p s)
 unfolding concluded
-concluded-counted Start s h = choice Counted (eqb (s .element) 11) (λ t. h .elements) (λ t. (h .line, h .element))
-concluded-counted (Faulty fault) s h = (h .line, h .element)
-concluded-counted Comment s h = (h .line, h .element)
-concluded-counted (Named k) s h = (h .line, h .element)
-concluded-counted (Value n) s h = (h .line, h .element)
+concluded-in-bounds Start s h = choice InBounds (eqb (s .element) 11) (λ t. h .elements) (λ t. (h .line, h .element))
+concluded-in-bounds (Faulty fault) s h = (h .line, h .element)
+concluded-in-bounds Comment s h = (h .line, h .element)
+concluded-in-bounds (Named k) s h = (h .line, h .element)
+concluded-in-bounds (Value n) s h = (h .line, h .element)
 
 -- what a file gives: elements within their types, or a line and an element of its own
-pub parsed-counted : (text : List ℕ) → Counted (parsed text)
+pub parsed-in-bounds : (text : List ℕ) → InBounds (parsed text)
 unfolding parsed
-parsed-counted text =
-    choice Counted (ltb 65_535 (length text)) (λ t. (lit≤ tt, zero-le))
+parsed-in-bounds text =
+    choice InBounds (ltb 65_535 (length text)) (λ t. (lit≤ tt, zero-le))
     (λ t.
     let a = after-consistent 0 start text start-consistent in
-    concluded-counted _ _ (record { line = omega (arith, ltb-false 65_535 (length text) t); element = a .element; place = a .place; elements = a .elements }))
+    concluded-in-bounds _ _ (record { line = omega (arith, ltb-false 65_535 (length text) t); element = a .element; place = a .place; elements = a .elements }))

@@ -1,14 +1,14 @@
 -- How large a number an element holds, and that its type holds it. Assumes nothing.
-use mathlib.Core.Path.{_≡_, refl, ap, subst, sym}
-use mathlib.Core.Bool.{Bool, true, false, cond, _&&_}
+use mathlib.Core.Path.{_≡_, refl, ap}
+use mathlib.Core.Bool.{Bool, true, false, cond}
 use Prim.Native.Nat.{ℕ, zero, suc, _-_, _^_, _≤_, _<_, zero-le}
 use native.Mathlib.Nat.{le-trans, le-of-suc-le-suc}
 use native.Mathlib.Omega.{arith}
 use borrow.Author.Tests.{eqb-true, leb-true}
-use lib.Dec.{T, eqb, leb, lit≤}
+use lib.Dec.{eqb, leb, lit≤}
 use lib.IntN.{pos, negsuc, negℤ}
 use lib.Signed.{mag}
-use mir.Syntax.{Width}
+use mir.Syntax.{Width, w32, w64}
 use mir.Val.{hbits, SFits}
 use Rattle.integer.proofs.Tests.{and-true}
 use Rattle.elements_file.specs.Numbers.{largest, isRate, isEpoch, isDigit, signedOf}
@@ -47,10 +47,11 @@ unfolding largest
 largest-bits element true = largest-epoch element true
 largest-bits element false = le-trans (largest-epoch element false) (lit≤ tt)
 
--- ---- by the element's number
-pub fits-unsigned : (k element m : ℕ) (negative : Bool) → largest k negative ≡ 2 ^ 32 - 1 → m ≤ largest element negative → eqb element k ≡ true → m < 2 ^ 32
-fits-unsigned k element m negative e h t =
-    let h' = rw (eqb-true element k t, e) at h in
+-- ---- by the element's number k
+pub fits-unsigned : (k element m : ℕ) (negative : Bool) → isEpoch k ≡ false → isRate k ≡ false → m ≤ largest element negative → eqb element k ≡ true → m < 2 ^ 32
+unfolding largest
+fits-unsigned k element m negative e r h t =
+    let h' = rw (eqb-true element k t, e, r) at h in
     omega arith
 
 -- the magnitude with its sign, of which the lowest has no positive
@@ -59,11 +60,19 @@ mag-signed b m false h = h
 mag-signed b zero true h = zero-le
 mag-signed b (suc m) true h = le-of-suc-le-suc h
 
-pub fits-signed : (w : Width) (b k element : ℕ) (n : Number) → 2 ^ hbits w ≡ suc b → largest k (n .negative) ≡ cond (n .negative) (suc b) b → n .magnitude ≤ largest element (n .negative) → eqb element k ≡ true → SFits w (signedOf n)
+fits-signed : (w : Width) (b : ℕ) (n : Number) → 2 ^ hbits w ≡ suc b → n .magnitude ≤ cond (n .negative) (suc b) b → SFits w (signedOf n)
 unfolding signedOf
-fits-signed w b k element n half e h t =
-    let h' = mag-signed b (n .magnitude) (n .negative) (rw (eqb-true element k t, e) at h) in
+fits-signed w b n half h =
+    let h' = mag-signed b (n .magnitude) (n .negative) h in
     record { sfits = omega arith }
+
+pub fits-rate : (k element : ℕ) (n : Number) → isEpoch k ≡ false → isRate k ≡ true → n .magnitude ≤ largest element (n .negative) → eqb element k ≡ true → SFits w32 (signedOf n)
+unfolding largest
+fits-rate k element n e r h t = fits-signed w32 (2 ^ 31 - 1) n refl (rw (eqb-true element k t, e, r) at h)
+
+pub fits-epoch : (element : ℕ) (n : Number) → n .magnitude ≤ largest element (n .negative) → eqb element 10 ≡ true → SFits w64 (signedOf n)
+unfolding largest
+fits-epoch element n h t = fits-signed w64 (2 ^ 63 - 1) n refl (rw (eqb-true element 10 t) at h)
 
 pub below-zero : (m : ℕ) → (m ≡ 0 → ⊥) → negsuc (m - 1) ≡ negℤ (pos m)
 below-zero zero h = absurd (h refl)

@@ -52,6 +52,6 @@ pub record Consistent (bytes : ℕ) (s : Progress) : Type 0 where
   pub elements : Held (s .elements)
 
 -- elements within their types, or a line and an element that the file has
-abbrev pub Counted : Parsed → Type 0
-Counted (Whole el) = Held el
-Counted (Malformed line element fault) = (line ≤ 65_536) × (element ≤ 11)
+abbrev pub InBounds : Parsed → Type 0
+InBounds (Whole el) = Held el
+InBounds (Malformed line element fault) = (line ≤ 65_536) × (element ≤ 11)

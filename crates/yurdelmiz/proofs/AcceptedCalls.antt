@@ -2,7 +2,7 @@
 use mathlib.Core.Path.{_≡_, refl, sym, ap, subst, _∙_}
 use mathlib.Core.Bool.{Bool, true, false}
 use mathlib.Core.List.{List}
-use Prim.Native.Nat.{ℕ, _+_, _*_, _/_, _%_, _^_, _≤_, _<_}
+use Prim.Native.Nat.{ℕ, _/_, _%_, _^_, _≤_, _<_}
 use native.Mathlib.Omega.{arith}
 use borrow.Author.Tests.{eq-eqb, leb-true, leb-false}
 use lib.Dec.{lit≤, leb}
@@ -14,7 +14,6 @@ use Rattle.refusal.specs.declared.Refusal.the-variants.{Eccentricity, SemiMajor
 use Rattle.kepler.specs.Contract.{AnomalyAt}
 use Rattle.kepler.specs.Solution.{solution}
 use Rattle.kepler.specs.declared.Anomaly.{Anomaly}
-use Rattle.kepler.specs.declared.Solution.{Solution}
 use Rattle.kepler.proofs.Answer as solver
 use Rattle.orbit.specs.Contract.{StateAt}
 use Rattle.orbit.specs.Placement.{placement}
@@ -23,13 +22,13 @@ use Rattle.orbit.specs.declared.Placement.{Placement}
 use Rattle.orbit.specs.declared.Placement.the-variants as placement
 use Rattle.orbit.specs.declared.elements.Elements.{Elements}
 use Rattle.orbit.proofs.Placements.{placed-state}
-use Rattle.elements_file.specs.Contract.{Counted}
+use Rattle.elements_file.specs.Contract.{InBounds}
 use Rattle.elements_file.specs.Reading.{parsed}
 use Rattle.elements_file.specs.declared.Fault.{Fault}
 use Rattle.elements_file.specs.declared.Fault.the-variants.{Name, Extra, ControlByte, DecimalPoint, NotWhole, TooLarge, Unended, Missing, TooLong}
 use Rattle.elements_file.specs.declared.Parsed.{Parsed}
 use Rattle.elements_file.specs.declared.Parsed.the-variants as parsed
-use Rattle.elements_file.proofs.Consistency.{parsed-counted}
+use Rattle.elements_file.proofs.Consistency.{parsed-in-bounds}
 use Rattle.label_file.specs.Trailer.{distanceBack}
 use Rattle.label_file.specs.declared.Counts.{Counts}
 use Rattle.labelling.specs.Day.{labelling, records, outputAfter}
@@ -134,7 +133,7 @@ pub record ElementsAnswer (text answer : List ℕ) : Type 0 where
 elements-by : (text answer : List ℕ) (r : Parsed) → parsed text ≡ r → Ending (elementsOutcome r) answer → ElementsAnswer text answer
 elements-by text answer (parsed.Malformed line element fault) e g = absurd (omega (arith, fault-numbered fault))
 elements-by text answer (parsed.Whole el) e g =
-    record { elements = el; parsed-is = e; answer-is = g; elements-are = rw g (elements-back el (subst Counted e (parsed-counted text))) }
+    record { elements = el; parsed-is = e; answer-is = g; elements-are = rw g (elements-back el (subst InBounds e (parsed-in-bounds text))) }
 
 pub elements-accepted : (text buffer : List ℕ) → elementsCall text buffer .status ≡ 0 → ElementsAnswer text (elementsCall text buffer .answer)
 unfolding elementsCall
@@ -150,7 +149,7 @@ pub elements-malformed : (text buffer : List ℕ) (line element : ℕ) (fault : 
     → FaultResult line element (faultNumber fault) (elementsCall text buffer .status)
 unfolding elementsCall
 elements-malformed text buffer line element fault n e =
-    let c = subst Counted e (parsed-counted text) in
+    let c = subst InBounds e (parsed-in-bounds text) in
     let k = fault-numbered fault in
     let s = ap (λ (x : Call). x .status) (sym (ends-refused _ _ buffer {status = statusAt (faultNumber fault) (faultPlace line element)} refl (eq-eqb _ 48 n) (ap elementsOutcome e))) in
     record { status-is = omega arith; line-is = omega arith; element-is = omega arith }

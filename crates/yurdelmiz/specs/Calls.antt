@@ -19,12 +19,12 @@ use Rattle.orbit.specs.Placement.{placement}
 use Rattle.orbit.specs.declared.elements.Elements.{Elements}
 use Rattle.orbit.specs.declared.Placement.{Placement}
 use Rattle.orbit.specs.declared.Placement.the-variants as placement
-use Rattle.eclipse.specs.Shade.{shadeCode, shadeAnswer}
-use Rattle.eclipse.specs.declared.ShadeAnswer.{ShadeAnswer}
-use Rattle.eclipse.specs.declared.ShadeAnswer.the-variants as shade
 use Rattle.elements_file.specs.Reading.{parsed}
 use Rattle.elements_file.specs.declared.Parsed.{Parsed}
 use Rattle.elements_file.specs.declared.Parsed.the-variants as parsed
+use Rattle.eclipse.specs.Shade.{shadeCode, shadeAnswer}
+use Rattle.eclipse.specs.declared.ShadeAnswer.{ShadeAnswer}
+use Rattle.eclipse.specs.declared.ShadeAnswer.the-variants as shade
 use Rattle.label_file.specs.Reading.{bufferReading}
 use Rattle.label_file.specs.declared.FileReading.{FileReading}
 use Rattle.label_file.specs.declared.FileReading.the-variants as reading

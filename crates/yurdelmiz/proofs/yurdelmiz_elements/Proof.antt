@@ -1,9 +1,9 @@
 -- `yurdelmiz::yurdelmiz_elements` meets its contract. Assumes nothing.
-use mathlib.Core.Path.{_≡_, sym, ap, subst, _∙_}
+use mathlib.Core.Path.{sym, ap, subst, _∙_}
 use borrow.Author.Tests.{eq-eqb, ne-eqb}
 use denote.Ref.{now}
-use Rattle.elements_file.specs.Contract.{Counted}
-use Rattle.elements_file.proofs.Consistency.{parsed-counted}
+use Rattle.elements_file.specs.Contract.{InBounds}
+use Rattle.elements_file.proofs.Consistency.{parsed-in-bounds}
 use Rattle.yurdelmiz.specs.Calls.{elementsOutcome, elementsCall}
 use Rattle.yurdelmiz.proofs.Endings.{bad-buffer, ends-refused, ends-given}
 use borrow.Author.Needs.{needs}
@@ -17,7 +17,7 @@ returns c = bad-buffer _ _ _ (ne-eqb _ 48 (c .if1 .taken))
 fault-place-requires : tie.Need-fault-place-requires
 fault-place-requires c κs =
     let p = c .before .before .before .before in
-    subst Counted (sym (p .parse .ensures) ∙ c .before .before .parsed .given .1) (parsed-counted (now (p .before .before .before .before .args .text)))
+    subst InBounds (sym (p .parse .ensures) ∙ c .before .before .parsed .given .1) (parsed-in-bounds (now (p .before .before .before .before .args .text)))
 
 returns-2 : tie.Need-returns-2
 unfolding elementsCall
