@@ -24,14 +24,15 @@ pub struct Day<'a> {
 }
 
 pub fn failure(day: &Day, refused: Refused) -> Failure {
-    Failure::refused(match refused.refusal {
-        Refusal::Eccentricity => day.of(Element::Eccentricity),
+    let refusal = refused.refusal;
+    Failure::refused(match refusal {
+        Refusal::Eccentricity => day.of(Element::Eccentricity, refusal),
         Refusal::SemiMajorAxis => day.axis(),
         Refusal::PerigeeDistance => day.perigee(),
-        Refusal::Inclination => day.of(Element::Inclination),
-        Refusal::MeanMotion => day.of(Element::MeanMotion),
+        Refusal::Inclination => day.of(Element::Inclination, refusal),
+        Refusal::MeanMotion => day.of(Element::MeanMotion, refusal),
         Refusal::DriftRate => day.rate(),
-        Refusal::EpochRevolution => day.of(Element::EpochRevolution),
+        Refusal::EpochRevolution => day.of(Element::EpochRevolution, refusal),
         Refusal::Time if out_of_range(day.elements.epoch) => day.epoch(),
         Refusal::Time => day.record(refused.place as usize),
         Refusal::TelemetryLength => day.length(),
@@ -60,25 +61,28 @@ impl Day<'_> {
         quote::path(self.elements_path)
     }
 
-    fn of(&self, element: Element) -> String {
-        let number = elements_report::number(element, self.elements);
-        self.told(element, &elements_report::value(element, self.elements), number)
+    /// The element that a refusal is about: the rule, its number and what that stands for.
+    fn of(&self, element: Element, refusal: Refusal) -> String {
+        let number = elements_report::number(element, self.elements).to_string();
+        let value = elements_report::value(element, self.elements);
+        let is = if value == number { String::new() } else { format!(" is {value}") };
+        self.told(element, &format!("{}: {} {number}{is}", refusal.sentence(), element.name()))
     }
 
-    fn told(&self, element: Element, value: &str, number: i64) -> String {
-        let (place, name) = (self.place(element), element.name());
-        let is = if value == number.to_string() { String::new() } else { format!(" is {value}") };
-        format!("{place}: {name} {number}{is}: check its digits, it counts {}", element.unit())
+    fn told(&self, element: Element, what: &str) -> String {
+        let (place, unit) = (self.place(element), element.unit());
+        format!("{place}: {what}; check its digits, it counts {unit}")
     }
 
     fn epoch(&self) -> String {
         let epoch = self.elements.epoch;
-        self.told(Element::Epoch, &format!("{}, {OUTSIDE}", date::shown(epoch)), epoch)
+        let shown = date::shown(epoch);
+        self.told(Element::Epoch, &format!("epoch {epoch} is {shown}, {OUTSIDE}"))
     }
 
     fn axis(&self) -> String {
         let metres = self.elements.semi_major_axis;
-        let told = self.of(Element::SemiMajorAxis);
+        let told = self.of(Element::SemiMajorAxis, Refusal::SemiMajorAxis);
         let lengthened = metres
             .checked_mul(1_000)
             .map(|axis| Elements { semi_major_axis: axis, ..*self.elements });
@@ -95,11 +99,12 @@ impl Day<'_> {
         let distance =
             u64::from(semi_major_axis) * (10_000_000 - u64::from(eccentricity)) / 10_000_000;
         format!(
-            "{}, lines {} and {}: eccentricity {} and semi_major_axis {} metres put the perigee {} km \
-             from the Earth's centre: check their digits",
+            "{}, lines {} and {}: {}: eccentricity {} and semi_major_axis {} metres put it at {} km; check \
+             their digits",
             self.elements_name(),
             self.line(Element::Eccentricity),
             self.line(Element::SemiMajorAxis),
+            Refusal::PerigeeDistance.sentence(),
             elements_report::value(Element::Eccentricity, self.elements),
             grouped(semi_major_axis),
             grouped(distance / 1_000),
@@ -110,7 +115,8 @@ impl Day<'_> {
     fn rate(&self) -> String {
         let alone = Elements { perigee_rate: 0, ..*self.elements };
         let node = yurdelmiz::position(&alone, alone.epoch) == Err(Refusal::DriftRate);
-        self.of(if node { Element::NodeRate } else { Element::PerigeeRate })
+        let rate = if node { Element::NodeRate } else { Element::PerigeeRate };
+        self.of(rate, Refusal::DriftRate)
     }
 
     fn length(&self) -> String {
@@ -123,7 +129,7 @@ impl Day<'_> {
         let (records, rest) = (length / Sample::SIZE as u64, length % Sample::SIZE as u64);
         if rest == 0 {
             return format!(
-                "{path}: {} records: label it in parts of at most 1,024",
+                "{path}: {} records, and a day has at most 1,024: label it in parts",
                 grouped(records)
             );
         }

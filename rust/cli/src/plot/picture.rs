@@ -231,7 +231,7 @@ impl<'a> Day<'a> {
             let (revolution, side) = run.key;
             let (left, right) = (self.x(run.from), self.x(run.to));
             let width = right - left;
-            drawing.rect(left, UPPER.top - 7.0, (width - 1.0).max(0.5), 5.0, colour(side));
+            drawing.rect(left, UPPER.top - 7.0, (width - 1.0).max(1.5), 5.0, colour(side));
             if run.meets && width > 20.0 {
                 drawing.line((left, UPPER.top - 7.0), (left, UPPER.bottom), PERIGEE);
                 drawing.line((left, LOWER.top), (left, LOWER.bottom), PERIGEE);
