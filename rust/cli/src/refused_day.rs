@@ -1,14 +1,16 @@
 //! Why a day was not labelled: which file, which line or record, what it holds, and what to do. The refusal is
 //! the library's; which of a refusal's causes it was is found by asking the library again.
 
+use std::fs;
 use std::path::Path;
 
-use yurdelmiz::{Element, Elements, Refusal, Refused, Sample};
+use yurdelmiz::{Element, Elements, LabelFile, Refusal, Refused, Sample};
 
 use crate::date;
 use crate::decimal::grouped;
 use crate::elements_report;
 use crate::failure::Failure;
+use crate::input;
 use crate::quote;
 use crate::telemetry_input::Telemetry;
 
@@ -119,8 +121,19 @@ impl Day<'_> {
         self.of(rate, Refusal::DriftRate)
     }
 
+    /// Whether the telemetry is what `label` writes.
+    fn is_label_file(&self) -> bool {
+        let regular = fs::metadata(self.telemetry_path).is_ok_and(|metadata| metadata.is_file());
+        regular
+            && input::read_end(self.telemetry_path, LabelFile::LONGEST)
+                .is_ok_and(|end| LabelFile::read(&end.bytes).is_ok())
+    }
+
     fn length(&self) -> String {
         let path = quote::path(self.telemetry_path);
+        if self.is_label_file() {
+            return format!("{path}: it is a label file: the order is ELEMENTS TELEMETRY LABELS");
+        }
         let Some(length) = self.telemetry.length() else {
             return format!(
                 "{path}: over 16,384 bytes: label it in parts of at most 1,024 records"
@@ -167,6 +180,8 @@ impl Day<'_> {
         };
         if let Some(hint) = self.unix_hint(time) {
             told.push_str(&hint);
+        } else if self.is_label_file() {
+            told.push_str("; the file is a label file: the order is ELEMENTS TELEMETRY LABELS");
         } else if self.telemetry.looks_like_csv() {
             told.push_str(
                 "; the file looks like text: CSV has a name that ends in .csv, or the option --csv",

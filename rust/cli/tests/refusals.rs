@@ -190,6 +190,12 @@ fn lengths() {
     let folder = Folder::with_example();
     folder.write("telemetry", "time,volts,amperes\n1985-08-29T13:45:00Z,14,1\n");
     refused(&folder, sentence, &["it looks like text", "--csv"]);
+    // Labels in place of the telemetry: too long, and with times that are none.
+    let order = "label file: the order is ELEMENTS TELEMETRY LABELS";
+    for labels in [common::LABELS.to_vec(), common::label_file(&[common::LABEL; 2])] {
+        folder.write("telemetry", labels);
+        folder.run(["label", "elements", "telemetry", "none"]).fails(1).tells(&[order]);
+    }
     // A device has no length, and is not read to its end.
     folder
         .run(["label", "elements", "/dev/zero", "none"])
