@@ -58,12 +58,11 @@ pub fn parse(text: &[u8]) -> Result<Vec<Row>, BadLine> {
             header = true;
         }
     }
-    match header {
-        true => Ok(rows),
-        false => {
-            Err(BadLine { line: 1, what: format!("the file has no header, {}", HEADER.join(",")) })
-        }
+    if !header {
+        let what = format!("the file has no header, {}", HEADER.join(","));
+        return Err(BadLine { line: 1, what });
     }
+    Ok(rows)
 }
 
 /// The text behind a mark that spreadsheets begin a file with.
@@ -87,10 +86,11 @@ fn text_without_mark(text: &[u8]) -> Result<&[u8], String> {
 fn text_of(line: &[u8]) -> Result<&str, String> {
     let line = line.strip_suffix(b"\r").unwrap_or(line);
     if let Some(what) = control_byte(line) {
-        return Err(match line.contains(&b'\t') {
-            true => format!("{what}: commas separate the fields"),
+        return Err(if line.contains(&b'\t') {
+            format!("{what}: commas separate the fields")
+        } else {
             // CR CR LF, as a file converted twice has it.
-            false => what.replace("CR LF", "CR CR LF"),
+            what.replace("CR LF", "CR CR LF")
         });
     }
     std::str::from_utf8(line).map_err(|_| format!("this is no text: {}", quote::bytes(line)))
@@ -107,10 +107,10 @@ fn field_of(field: &str) -> Result<&str, String> {
         Some(rest) => rest.strip_suffix('"').ok_or("a quote is not closed in its field")?,
         None => field,
     };
-    match inner.contains('"') {
-        true => Err("a quote stands within a field".to_owned()),
-        false => Ok(inner),
+    if inner.contains('"') {
+        return Err("a quote stands within a field".to_owned());
     }
+    Ok(inner)
 }
 
 fn check_header(line: &str, fields: &[&str]) -> Result<(), String> {
@@ -167,18 +167,18 @@ const WHOLE: &str = "write whole seconds";
 /// `1985-08-29T13:45:00Z`, with a space in place of T, or without Z.
 fn date_time_of(field: &str) -> Result<i64, String> {
     let form = || "is not of the form 1985-08-29T13:45:00Z, nor whole seconds".to_owned();
-    let (start, rest) = match field.is_char_boundary(19) && field.len() >= 19 {
-        true => field.split_at(19),
-        false => return Err(short_of(field).unwrap_or_else(form)),
+    let Some((start, rest)) = field.split_at_checked(19) else {
+        return Err(short_of(field).unwrap_or_else(form));
     };
     let civil = civil_of(start.as_bytes()).ok_or_else(form)?;
     if rest.starts_with(['.', ',']) {
         return Err(format!("has a fraction of a second: {WHOLE}"));
     }
     if !matches!(rest, "" | "Z" | "+00:00") {
-        return Err(match rest.starts_with(['+', '-']) {
-            true => format!("is in another zone, {rest}: write it in UTC"),
-            false => form(),
+        return Err(if rest.starts_with(['+', '-']) {
+            format!("is in another zone, {rest}: write it in UTC")
+        } else {
+            form()
         });
     }
     if civil.second == 60 {

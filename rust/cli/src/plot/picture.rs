@@ -311,9 +311,10 @@ fn watts_range(watts: &[f64]) -> Option<String> {
     };
     let least = watts.iter().copied().min_by(f64::total_cmp)?;
     let greatest = watts.iter().copied().max_by(f64::total_cmp)?;
-    Some(match least == greatest {
-        true => format!("{} W", shown(least)),
-        false => format!("{} to {} W", shown(least), shown(greatest)),
+    Some(if least == greatest {
+        format!("{} W", shown(least))
+    } else {
+        format!("{} to {} W", shown(least), shown(greatest))
     })
 }
 
