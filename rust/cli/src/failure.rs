@@ -75,7 +75,7 @@ pub fn note(message: impl Display) {
 
 /// A line on standard error without the command's name.
 pub fn raw_note(message: impl Display) {
-    let _ = writeln!(io::stderr(), "{message}");
+    let _ = io::stderr().write_all(format!("{message}\n").as_bytes());
 }
 
 /// The system's words for an error, without its number.

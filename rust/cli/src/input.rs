@@ -36,7 +36,7 @@ pub fn read_start(path: &Path, most: usize) -> Result<Start, Failure> {
     let length = if bytes.len() <= most {
         Some(bytes.len() as u64)
     } else {
-        metadata.is_file().then_some(metadata.len())
+        metadata.is_file().then_some(metadata.len().max(bytes.len() as u64))
     };
     Ok(Start { bytes, length })
 }

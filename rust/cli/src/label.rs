@@ -31,12 +31,13 @@ fn run(arguments: &Arguments) -> Result<(), Failure> {
     }
     output::check(&COMMAND, labels_path, &[elements_path, telemetry_path])?;
     let text = input::read_start(elements_path, LONGEST_TEXT)?.bytes;
-    let telemetry = TelemetryFile::read(telemetry_path, arguments.has("--csv"))?;
+    let telemetry_file = TelemetryFile::read(telemetry_path, arguments.has("--csv"))?;
 
     let elements = match parse_elements(&text) {
         Ok(elements) => elements,
         Err(fault) => {
-            stdout::print(&malformed::verdict(fault, &text))?;
+            let sentence = malformed::sentence(fault, &text);
+            stdout::print(&format!("malformed line {}: {sentence}\n", fault.line))?;
             return Err(malformed::failure(elements_path, &text, fault));
         }
     };
@@ -44,15 +45,12 @@ fn run(arguments: &Arguments) -> Result<(), Failure> {
     if let Some(warning) = third_law::warning(&elements) {
         note(format!("warning: {}: {warning}", quote::path(elements_path)));
     }
-    let telemetry = match telemetry.records() {
+    let telemetry = match telemetry_file.records() {
         Ok(telemetry) => telemetry,
         Err(bad) => {
-            stdout::print(&format!(
-                "malformed line {} of the telemetry: {}\n",
-                bad.line, bad.what
-            ))?;
-            let path = quote::path(telemetry_path);
-            return Err(Failure::refused(format!("{path}, line {}: {}", bad.line, bad.what)));
+            let (line, what) = (bad.line, &bad.what);
+            stdout::print(&format!("malformed line {line} of the telemetry: {what}\n"))?;
+            return Err(telemetry_file.failure(telemetry_path, &bad));
         }
     };
     let labels = match label_to_vec(&elements, &telemetry.bytes) {

@@ -93,10 +93,8 @@ fn as_csv(file: &LabelFile) -> String {
 fn as_json(file: &LabelFile) -> String {
     let counts = file.counts();
     let labels: Vec<String> = file.labels().map(|label| label_json(&label)).collect();
-    let labels = match labels.is_empty() {
-        true => "[]".to_owned(),
-        false => format!("[\n{}\n]", labels.join(",\n")),
-    };
+    let labels =
+        if labels.is_empty() { "[]".to_owned() } else { format!("[\n{}\n]", labels.join(",\n")) };
     format!(
         "{{\"counts\": {{\"labels\": {}, \"training\": {}, \"test\": {}}}, \"labels\": {labels}}}\n",
         counts.labels, counts.training, counts.test

@@ -3,6 +3,8 @@
 //!
 //! A subcommand is one file with its `COMMAND`, one text under help/ and one line in [`COMMANDS`].
 
+#![deny(unsafe_code)]
+
 mod arguments;
 mod date;
 mod decimal;
@@ -19,6 +21,7 @@ mod plot;
 mod quote;
 mod refused_day;
 mod refused_file;
+#[allow(unsafe_code)]
 mod signals;
 mod stdout;
 mod telemetry_csv;

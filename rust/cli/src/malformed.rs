@@ -8,11 +8,20 @@ use crate::failure::Failure;
 use crate::input::looks_like_text;
 use crate::quote;
 
-/// The line of a fault, counted from 1, without its LF; none past the end of the file.
-fn line_of(text: &[u8], number: u32) -> Option<&[u8]> {
-    let line = text.split(|byte| *byte == b'\n').nth(number as usize - 1)?;
-    let last = text.split(|byte| *byte == b'\n').count() == number as usize;
-    (!line.is_empty() || !last).then_some(line)
+/// A line, counted from 1, without its LF; none past the end of the file.
+pub fn line_of(text: &[u8], number: usize) -> Option<&[u8]> {
+    let mut lines = text.split(|byte| *byte == b'\n').skip(number - 1);
+    let line = lines.next()?;
+    (!line.is_empty() || lines.next().is_some()).then_some(line)
+}
+
+/// What stands in a line, for a message.
+pub fn found(text: &[u8], number: usize) -> String {
+    match line_of(text, number) {
+        _ if text.is_empty() => "the file is empty".to_owned(),
+        Some(line) => format!("found {}", quote::bytes(line)),
+        None => "found the end of the file".to_owned(),
+    }
 }
 
 /// A byte order mark, called by its name.
@@ -37,41 +46,38 @@ pub fn control_byte(line: &[u8]) -> Option<String> {
     })
 }
 
-/// The verdict's line.
-pub fn verdict(malformed: Malformed, text: &[u8]) -> String {
+/// What is wrong, with the bytes of editors called by their names.
+pub fn sentence(malformed: Malformed, text: &[u8]) -> String {
     let special = match malformed.fault {
         Fault::Name if malformed.line == 1 => byte_order_mark(text).map(str::to_owned),
-        Fault::ControlByte => line_of(text, malformed.line).and_then(control_byte).map(|what| {
-            let instead = if what.contains("CR LF") {
-                "end it with LF alone"
-            } else {
-                "one space stands between name and value, and nothing else"
-            };
-            format!("{what}: {instead}")
-        }),
+        Fault::ControlByte => {
+            line_of(text, malformed.line as usize).and_then(control_byte).map(|what| {
+                let instead = if what.contains("CR LF") {
+                    "end it with LF alone"
+                } else {
+                    "one space stands between name and value, and nothing else"
+                };
+                format!("{what}: {instead}")
+            })
+        }
         _ => None,
     };
-    match special {
-        Some(special) => format!("malformed line {}: {special}\n", malformed.line),
-        None => format!("{malformed}\n"),
-    }
+    special.unwrap_or_else(|| malformed.sentence())
 }
 
-/// File, line, what stands there, and what to write where that can be said.
+/// File, line, what is wrong, what stands there, and what to write where that can be said.
 pub fn failure(path: &Path, text: &[u8], malformed: Malformed) -> Failure {
-    let found = match line_of(text, malformed.line) {
-        _ if text.is_empty() => "the file is empty".to_owned(),
-        _ if malformed.fault == Fault::TooLong => {
-            "an elements file has eleven lines and some comments".to_owned()
-        }
-        Some(line) => format!("found {}", quote::bytes(line)),
-        None => "found the end of the file".to_owned(),
+    let sentence = sentence(malformed, text);
+    let found = match malformed.fault {
+        Fault::TooLong => "an elements file has eleven lines and some comments".to_owned(),
+        _ => found(text, malformed.line as usize),
     };
     let hint = match hint(path, text, malformed) {
         Some(hint) => format!("; {hint}"),
         None => String::new(),
     };
-    Failure::refused(format!("{}, line {}: {found}{hint}", quote::path(path), malformed.line))
+    let (path, line) = (quote::path(path), malformed.line);
+    Failure::refused(format!("{path}, line {line}: {sentence}; {found}{hint}"))
 }
 
 fn hint(path: &Path, text: &[u8], malformed: Malformed) -> Option<String> {
@@ -80,7 +86,7 @@ fn hint(path: &Path, text: &[u8], malformed: Malformed) -> Option<String> {
     {
         return Some("is it the telemetry? The order is ELEMENTS TELEMETRY LABELS".to_owned());
     }
-    let (line, element) = (line_of(text, malformed.line)?, malformed.element?);
+    let (line, element) = (line_of(text, malformed.line as usize)?, malformed.element?);
     let value = value_of(line, element)?;
     match malformed.fault {
         Fault::DecimalPoint | Fault::NotWhole => whole(element, value),

@@ -41,9 +41,10 @@ fn run(arguments: &Arguments) -> Result<(), Failure> {
         }
     };
     let labels: Vec<Label> = file.labels().collect();
+    let satellite = arguments.value("--satellite").filter(|name| !name.is_empty());
     let names = Names {
         file: path.file_name().unwrap_or(path.as_os_str()).to_string_lossy().into_owned(),
-        satellite: arguments.value("--satellite").map(|name| name.to_string_lossy().into_owned()),
+        satellite: satellite.map(|name| name.to_string_lossy().into_owned()),
     };
     output::write(out, picture::draw(&names, &labels).as_bytes())?;
     stdout::print(&format!("drawn {}\n", labels.len()))

@@ -1,14 +1,16 @@
 //! Why a day was not labelled: which file, which line or record, what it holds, and what to do. The refusal is
 //! the library's; which of a refusal's causes it was is found by asking the library again.
 
+use std::fs;
 use std::path::Path;
 
-use yurdelmiz::{Element, Elements, Refusal, Refused, Sample};
+use yurdelmiz::{Element, Elements, LabelFile, Refusal, Refused, Sample};
 
 use crate::date;
 use crate::decimal::grouped;
 use crate::elements_report;
 use crate::failure::Failure;
+use crate::input;
 use crate::quote;
 use crate::telemetry_input::Telemetry;
 
@@ -24,14 +26,15 @@ pub struct Day<'a> {
 }
 
 pub fn failure(day: &Day, refused: Refused) -> Failure {
-    Failure::refused(match refused.refusal {
-        Refusal::Eccentricity => day.of(Element::Eccentricity),
+    let refusal = refused.refusal;
+    Failure::refused(match refusal {
+        Refusal::Eccentricity => day.of(Element::Eccentricity, refusal),
         Refusal::SemiMajorAxis => day.axis(),
         Refusal::PerigeeDistance => day.perigee(),
-        Refusal::Inclination => day.of(Element::Inclination),
-        Refusal::MeanMotion => day.of(Element::MeanMotion),
+        Refusal::Inclination => day.of(Element::Inclination, refusal),
+        Refusal::MeanMotion => day.of(Element::MeanMotion, refusal),
         Refusal::DriftRate => day.rate(),
-        Refusal::EpochRevolution => day.of(Element::EpochRevolution),
+        Refusal::EpochRevolution => day.of(Element::EpochRevolution, refusal),
         Refusal::Time if out_of_range(day.elements.epoch) => day.epoch(),
         Refusal::Time => day.record(refused.place as usize),
         Refusal::TelemetryLength => day.length(),
@@ -60,25 +63,28 @@ impl Day<'_> {
         quote::path(self.elements_path)
     }
 
-    fn of(&self, element: Element) -> String {
-        let number = elements_report::number(element, self.elements);
-        self.told(element, &elements_report::value(element, self.elements), number)
+    /// The element that a refusal is about: the rule, its number and what that stands for.
+    fn of(&self, element: Element, refusal: Refusal) -> String {
+        let number = elements_report::number(element, self.elements).to_string();
+        let value = elements_report::value(element, self.elements);
+        let is = if value == number { String::new() } else { format!(" is {value}") };
+        self.told(element, &format!("{}: {} {number}{is}", refusal.sentence(), element.name()))
     }
 
-    fn told(&self, element: Element, value: &str, number: i64) -> String {
-        let (place, name) = (self.place(element), element.name());
-        let is = if value == number.to_string() { String::new() } else { format!(" is {value}") };
-        format!("{place}: {name} {number}{is}: check its digits, it counts {}", element.unit())
+    fn told(&self, element: Element, what: &str) -> String {
+        let (place, unit) = (self.place(element), element.unit());
+        format!("{place}: {what}; check its digits, it counts {unit}")
     }
 
     fn epoch(&self) -> String {
         let epoch = self.elements.epoch;
-        self.told(Element::Epoch, &format!("{}, {OUTSIDE}", date::shown(epoch)), epoch)
+        let shown = date::shown(epoch);
+        self.told(Element::Epoch, &format!("epoch {epoch} is {shown}, {OUTSIDE}"))
     }
 
     fn axis(&self) -> String {
         let metres = self.elements.semi_major_axis;
-        let told = self.of(Element::SemiMajorAxis);
+        let told = self.of(Element::SemiMajorAxis, Refusal::SemiMajorAxis);
         let lengthened = metres
             .checked_mul(1_000)
             .map(|axis| Elements { semi_major_axis: axis, ..*self.elements });
@@ -95,11 +101,12 @@ impl Day<'_> {
         let distance =
             u64::from(semi_major_axis) * (10_000_000 - u64::from(eccentricity)) / 10_000_000;
         format!(
-            "{}, lines {} and {}: eccentricity {} and semi_major_axis {} metres put the perigee {} km \
-             from the Earth's centre: check their digits",
+            "{}, lines {} and {}: {}: eccentricity {} and semi_major_axis {} metres put it at {} km; check \
+             their digits",
             self.elements_name(),
             self.line(Element::Eccentricity),
             self.line(Element::SemiMajorAxis),
+            Refusal::PerigeeDistance.sentence(),
             elements_report::value(Element::Eccentricity, self.elements),
             grouped(semi_major_axis),
             grouped(distance / 1_000),
@@ -110,11 +117,23 @@ impl Day<'_> {
     fn rate(&self) -> String {
         let alone = Elements { perigee_rate: 0, ..*self.elements };
         let node = yurdelmiz::position(&alone, alone.epoch) == Err(Refusal::DriftRate);
-        self.of(if node { Element::NodeRate } else { Element::PerigeeRate })
+        let rate = if node { Element::NodeRate } else { Element::PerigeeRate };
+        self.of(rate, Refusal::DriftRate)
+    }
+
+    /// Whether the telemetry is what `label` writes.
+    fn is_label_file(&self) -> bool {
+        let regular = fs::metadata(self.telemetry_path).is_ok_and(|metadata| metadata.is_file());
+        regular
+            && input::read_end(self.telemetry_path, LabelFile::LONGEST)
+                .is_ok_and(|end| LabelFile::read(&end.bytes).is_ok())
     }
 
     fn length(&self) -> String {
         let path = quote::path(self.telemetry_path);
+        if self.is_label_file() {
+            return format!("{path}: it is a label file: the order is ELEMENTS TELEMETRY LABELS");
+        }
         let Some(length) = self.telemetry.length() else {
             return format!(
                 "{path}: over 16,384 bytes: label it in parts of at most 1,024 records"
@@ -123,7 +142,7 @@ impl Day<'_> {
         let (records, rest) = (length / Sample::SIZE as u64, length % Sample::SIZE as u64);
         if rest == 0 {
             return format!(
-                "{path}: {} records: label it in parts of at most 1,024",
+                "{path}: {} records, and a day has at most 1,024: label it in parts",
                 grouped(records)
             );
         }
@@ -161,6 +180,8 @@ impl Day<'_> {
         };
         if let Some(hint) = self.unix_hint(time) {
             told.push_str(&hint);
+        } else if self.is_label_file() {
+            told.push_str("; the file is a label file: the order is ELEMENTS TELEMETRY LABELS");
         } else if self.telemetry.looks_like_csv() {
             told.push_str(
                 "; the file looks like text: CSV has a name that ends in .csv, or the option --csv",

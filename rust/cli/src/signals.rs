@@ -56,8 +56,8 @@ pub fn prepare() {
     unsafe {
         for number in [HUP, INT, TERM] {
             // Whoever started the command may have it ignore a signal, as nohup does.
-            if signal(number, handler as usize) == IGNORED {
-                signal(number, IGNORED);
+            if signal(number, IGNORED) != IGNORED {
+                signal(number, handler as usize);
             }
         }
         // A write is then refused, and told as any other.

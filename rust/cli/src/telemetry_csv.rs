@@ -4,10 +4,18 @@
 use yurdelmiz::Sample;
 
 use crate::date::Civil;
+use crate::input::looks_like_text;
 use crate::malformed::{byte_order_mark, control_byte};
 use crate::quote;
 
 const HEADER: [&str; 3] = ["time", "volts", "amperes"];
+
+/// Said of a first line that no person wrote.
+const NO_TEXT: &str =
+    "this is no text; a file of 16-byte records is named otherwise than .csv, and takes no --csv";
+
+const UNENDED: &str =
+    "the file ends within this line: end it with LF, so that a file cut short can be told";
 
 /// The longest file that is read.
 pub const LONGEST: usize = 16 << 20;
@@ -28,60 +36,61 @@ pub struct BadLine {
 }
 
 pub fn parse(text: &[u8]) -> Result<Vec<Row>, BadLine> {
-    let bad = |line, what: String| Err(BadLine { line, what });
-    if text.len() > LONGEST {
-        return bad(
-            1,
-            "the file has more than 16,777,216 bytes: a day has at most 1,024 records".into(),
-        );
-    }
-    // Spreadsheets begin a file with this mark.
-    let text = text.strip_prefix(b"\xef\xbb\xbf").unwrap_or(text);
-    if let Some(mark) = byte_order_mark(text) {
-        return bad(1, mark.to_owned());
-    }
-    let Some(lines) = text.strip_suffix(b"\n") else {
-        let last = text.split(|byte| *byte == b'\n').count();
-        let what = if text.is_empty() {
-            format!("the file is empty: it begins with the header {}", HEADER.join(","))
-        } else {
-            "the file ends within this line: end it with LF, so that a file cut short can be told"
-                .to_owned()
-        };
-        return bad(last, what);
-    };
+    let text = text_without_mark(text).map_err(|what| BadLine { line: 1, what })?;
     let mut header = false;
     let mut rows = Vec::new();
-    for (number, line) in lines.split(|byte| *byte == b'\n').enumerate() {
-        let line_number = number + 1;
-        let told = |what| BadLine { line: line_number, what };
+    let mut lines = text.split(|byte| *byte == b'\n').zip(1..).peekable();
+    while let Some((line, number)) = lines.next() {
+        let told = |what| BadLine { line: number, what };
+        // Behind the last LF there is nothing.
+        if lines.peek().is_none() && !line.is_empty() {
+            return Err(told(UNENDED.to_owned()));
+        }
         let line = text_of(line).map_err(told)?;
         if line.trim_matches(' ').is_empty() {
             continue;
         }
         let fields = fields_of(line).map_err(told)?;
         if header {
-            rows.push(Row { line: line_number, sample: sample_of(&fields).map_err(told)? });
+            rows.push(Row { line: number, sample: sample_of(&fields).map_err(told)? });
         } else {
             check_header(line, &fields).map_err(told)?;
             header = true;
         }
     }
-    if header {
-        Ok(rows)
-    } else {
-        bad(1, format!("the file has no header: it begins with {}", HEADER.join(",")))
+    if !header {
+        let what = format!("the file has no header, {}", HEADER.join(","));
+        return Err(BadLine { line: 1, what });
     }
+    Ok(rows)
+}
+
+/// The text behind a mark that spreadsheets begin a file with.
+fn text_without_mark(text: &[u8]) -> Result<&[u8], String> {
+    if text.len() > LONGEST {
+        let what = "the file has more than 16,777,216 bytes: a day has at most 1,024 records";
+        return Err(what.to_owned());
+    }
+    let text = text.strip_prefix(b"\xef\xbb\xbf").unwrap_or(text);
+    if let Some(mark) = byte_order_mark(text) {
+        return Err(mark.to_owned());
+    }
+    let first = text.split(|byte| *byte == b'\n').next().unwrap_or_default();
+    if !first.is_empty() && !looks_like_text(first) {
+        return Err(NO_TEXT.to_owned());
+    }
+    Ok(text)
 }
 
 /// A line without its CR, where it is text.
 fn text_of(line: &[u8]) -> Result<&str, String> {
     let line = line.strip_suffix(b"\r").unwrap_or(line);
     if let Some(what) = control_byte(line) {
-        return Err(match line.contains(&b'\t') {
-            true => format!("{what}: commas separate the fields"),
+        return Err(if line.contains(&b'\t') {
+            format!("{what}: commas separate the fields")
+        } else {
             // CR CR LF, as a file converted twice has it.
-            false => what.replace("CR LF", "CR CR LF"),
+            what.replace("CR LF", "CR CR LF")
         });
     }
     std::str::from_utf8(line).map_err(|_| format!("this is no text: {}", quote::bytes(line)))
@@ -98,10 +107,10 @@ fn field_of(field: &str) -> Result<&str, String> {
         Some(rest) => rest.strip_suffix('"').ok_or("a quote is not closed in its field")?,
         None => field,
     };
-    match inner.contains('"') {
-        true => Err("a quote stands within a field".to_owned()),
-        false => Ok(inner),
+    if inner.contains('"') {
+        return Err("a quote stands within a field".to_owned());
     }
+    Ok(inner)
 }
 
 fn check_header(line: &str, fields: &[&str]) -> Result<(), String> {
@@ -158,18 +167,18 @@ const WHOLE: &str = "write whole seconds";
 /// `1985-08-29T13:45:00Z`, with a space in place of T, or without Z.
 fn date_time_of(field: &str) -> Result<i64, String> {
     let form = || "is not of the form 1985-08-29T13:45:00Z, nor whole seconds".to_owned();
-    let (start, rest) = match field.is_char_boundary(19) && field.len() >= 19 {
-        true => field.split_at(19),
-        false => return Err(short_of(field).unwrap_or_else(form)),
+    let Some((start, rest)) = field.split_at_checked(19) else {
+        return Err(short_of(field).unwrap_or_else(form));
     };
     let civil = civil_of(start.as_bytes()).ok_or_else(form)?;
     if rest.starts_with(['.', ',']) {
         return Err(format!("has a fraction of a second: {WHOLE}"));
     }
     if !matches!(rest, "" | "Z" | "+00:00") {
-        return Err(match rest.starts_with(['+', '-']) {
-            true => format!("is in another zone, {rest}: write it in UTC"),
-            false => form(),
+        return Err(if rest.starts_with(['+', '-']) {
+            format!("is in another zone, {rest}: write it in UTC")
+        } else {
+            form()
         });
     }
     if civil.second == 60 {
@@ -378,8 +387,9 @@ mod tests {
         assert_eq!(rows.iter().map(|row| row.line).collect::<Vec<_>>(), [2, 4]);
         assert_eq!(parse(b"time,volts,amperes\n"), Ok(vec![]));
         for (text, line, part) in [
-            ("", 1, "empty"),
+            ("", 1, "no header, time,volts,amperes"),
             ("\n", 1, "no header"),
+            ("time,volts\n0,1", 1, "the header is"),
             ("0,1,2\n", 1, "the header is missing"),
             ("time;volts;amperes\n", 1, "not semicolons"),
             ("time,volts,amps\n", 1, "the header is time,volts,amperes, and here stands"),
@@ -405,7 +415,7 @@ mod tests {
         }
         for (bytes, part) in [
             (&b"\xff\xfet\0i\0"[..], "UTF-16"),
-            (&b"\x00\x01\x02\n"[..], "control byte"),
+            (&b"\x00\x01\x02\n"[..], "this is no text; a file of 16-byte records"),
             (&b"\xffabc\n"[..], "no text"),
         ] {
             let bad = parse(bytes).unwrap_err();

@@ -6,6 +6,8 @@ use yurdelmiz::Sample;
 
 use crate::failure::Failure;
 use crate::input::{self, looks_like_text, Start};
+use crate::malformed;
+use crate::quote;
 use crate::telemetry_csv::{self, BadLine, Row};
 
 /// 1,024 records. One byte more is read, by which a longer file is known: it is refused for its length, however
@@ -26,14 +28,20 @@ impl TelemetryFile {
         Ok(TelemetryFile { start: input::read_start(path, most)?, csv })
     }
 
-    pub fn records(self) -> Result<Telemetry, BadLine> {
-        let TelemetryFile { start, csv } = self;
-        if !csv {
-            return Ok(Telemetry { bytes: start.bytes, length: start.length, rows: None });
+    pub fn records(&self) -> Result<Telemetry, BadLine> {
+        if !self.csv {
+            let (bytes, length) = (self.start.bytes.clone(), self.start.length);
+            return Ok(Telemetry { bytes, length, rows: None });
         }
-        let rows = telemetry_csv::parse(&start.bytes)?;
+        let rows = telemetry_csv::parse(&self.start.bytes)?;
         let bytes: Vec<u8> = rows.iter().flat_map(|row| row.sample.to_bytes()).collect();
         Ok(Telemetry { length: Some(bytes.len() as u64), bytes, rows: Some(rows) })
+    }
+
+    /// File, line, what is wrong and what stands there.
+    pub fn failure(&self, path: &Path, bad: &BadLine) -> Failure {
+        let found = malformed::found(&self.start.bytes, bad.line);
+        Failure::refused(format!("{}, line {}: {}; {found}", quote::path(path), bad.line, bad.what))
     }
 }
 

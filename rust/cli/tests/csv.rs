@@ -76,7 +76,7 @@ fn bad_lines() {
         (text("1,1,2\u{feff}"), 3, "amperes"),
         ("0,1,2\n".to_owned(), 1, "the header is missing: the first line is time,volts,amperes"),
         ("time,volts,amperes\n0,1,2".to_owned(), 2, "the file ends within this line"),
-        (String::new(), 1, "the file is empty"),
+        (String::new(), 1, "the file has no header, time,volts,amperes"),
     ] {
         folder.write("day.csv", text);
         for kept in [None, Some("kept")] {
@@ -97,6 +97,15 @@ fn bad_lines() {
     }
 }
 
+/// Records of 16 bytes that are called CSV.
+#[test]
+fn records_as_csv() {
+    let folder = Folder::with_example();
+    let run = folder.run(["label", "--csv", "elements", "telemetry", "out"]);
+    run.fails(1).tells(&["telemetry, line 1: this is no text", "16-byte records"]);
+    assert!(!folder.has("out"));
+}
+
 /// A refused record is named by its line.
 #[test]
 fn refused_records() {
@@ -110,7 +119,7 @@ fn refused_records() {
         .tells(&["day.csv, line 5 (record 2, from 0): the record's time is 2101-01-01 00:00:00"]);
     folder.write("day.csv", format!("time,volts,amperes\n{}", good.repeat(1_025)));
     let run = folder.run(["label", "elements", "day.csv", "out"]);
-    run.fails(1).tells(&["day.csv: 1,025 records: label it in parts of at most 1,024"]);
+    run.fails(1).tells(&["day.csv: 1,025 records, and a day has at most 1,024: label it in parts"]);
     folder.write("day.csv", format!("time,volts,amperes\n{}", good.repeat(1_024)));
     folder.run(["label", "elements", "day.csv", "out"]).fails(0);
     folder.write("day.csv", "time,volts,amperes\n");

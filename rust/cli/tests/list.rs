@@ -2,7 +2,7 @@
 
 mod common;
 
-use std::process::Stdio;
+use std::io;
 
 use common::{label_file, label_with, Folder, LABEL, LABELS};
 
@@ -235,13 +235,8 @@ fn standard_output() {
     // A limit on the file's size, within the listing.
     let run = folder.shell("ulimit -f 8; \"$@\" >listed", &["list", "day"]);
     run.is(3, "").tells(&["standard output: File too large"]);
-    let mut child = folder
-        .command(["list", "day"])
-        .stdout(Stdio::piped())
-        .stderr(Stdio::piped())
-        .spawn()
-        .unwrap();
-    drop(child.stdout.take());
-    let output = child.wait_with_output().unwrap();
+    let (reader, writer) = io::pipe().unwrap();
+    drop(reader);
+    let output = folder.command(["list", "day"]).stdout(writer).output().unwrap();
     assert_eq!((output.status.code(), output.stderr), (Some(3), vec![]));
 }

@@ -227,6 +227,8 @@ fn names() {
     let text = String::from_utf8(folder.read("out.SVG")).unwrap();
     assert!(text.contains("a&lt;b&gt;&amp;&quot;c&quot;.labels"));
     assert!(text.contains("&lt;&amp;\u{fffd}&gt;: battery power"));
+    let picture = Picture::of(&label_file(&[LABEL]), &["--satellite", ""]);
+    picture.says(">Battery power and sunlight<");
     let long = "satellite ".repeat(30);
     let picture = Picture::of(&label_file(&[LABEL]), &["--satellite", &long]);
     assert!(picture.0.iter().all(|line| line.len() < 300));

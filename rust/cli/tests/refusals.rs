@@ -23,66 +23,67 @@ fn refused_elements(from: &str, to: &str, verdict: &str, told: &[&str]) {
     refused(&folder, verdict, told);
 }
 
+/// The sentence of the table on standard output; on standard error with file, line and value.
 #[test]
 fn elements() {
-    for (from, to, verdict, told) in [
+    let axis = "the semi-major axis is not within 6,600 to 100,000 km";
+    let rate = "a drift rate is beyond 20 degrees a day";
+    for (from, to, number, sentence, place, fact) in [
         (
             "eccentricity 6100000",
             "eccentricity 9000001",
-            "1 at 0: the eccentricity is above 0.9",
-            "elements, line 1: eccentricity 9000001 is 0.9000001",
+            1,
+            "the eccentricity is above 0.9",
+            "line 1",
+            "eccentricity 9000001 is 0.9000001; check its digits, it counts units of 10^-7",
         ),
-        (
-            "26100000",
-            "6599999",
-            "2 at 0: the semi-major axis is not within 6,600 to 100,000 km",
-            "elements, line 2: semi_major_axis 6599999 is 6599999 metres",
-        ),
+        ("26100000", "6599999", 2, axis, "line 2", "semi_major_axis 6599999 is 6599999 metres"),
         (
             "26100000",
             "26100",
-            "2 at 0: the semi-major axis is not within 6,600 to 100,000 km",
-            "26100 km are written 26100000",
+            2,
+            axis,
+            "line 2",
+            "semi_major_axis 26100 is 26100 metres; check its digits, it counts metres; 26100 km are written \
+             26100000",
         ),
         (
             "eccentricity 6100000",
             "eccentricity 8000000",
-            "3 at 0: the perigee is less than 6,478 km from the Earth's centre",
-            "elements, lines 1 and 2: eccentricity 0.8000000 and semi_major_axis 26,100,000 metres put the \
-             perigee 5,220 km",
+            3,
+            "the perigee is less than 6,478 km from the Earth's centre",
+            "lines 1 and 2",
+            "eccentricity 0.8000000 and semi_major_axis 26,100,000 metres put it at 5,220 km",
         ),
         (
             "305419896",
             "2147483649",
-            "4 at 0: the inclination is above 180 degrees",
-            "elements, line 3: inclination 2147483649 is 180.0000 degrees",
+            4,
+            "the inclination is above 180 degrees",
+            "line 3",
+            "inclination 2147483649 is 180.0000 degrees",
         ),
         (
             "205890000",
             "4294967295",
-            "5 at 0: the mean motion is not within 0.2 to 17 revolutions a day",
-            "elements, line 7: mean_motion 4294967295 is 42.94967295 revolutions a day",
+            5,
+            "the mean motion is not within 0.2 to 17 revolutions a day",
+            "line 7",
+            "mean_motion 4294967295 is 42.94967295 revolutions a day",
         ),
-        (
-            "-1724",
-            "-2147483648",
-            "6 at 0: a drift rate is beyond 20 degrees a day",
-            "elements, line 8: node_rate -2147483648 is -214748.3648 degrees a day",
-        ),
-        (
-            "2834",
-            "200001",
-            "6 at 0: a drift rate is beyond 20 degrees a day",
-            "elements, line 9: perigee_rate 200001 is 20.0001 degrees a day",
-        ),
+        ("-1724", "-2147483648", 6, rate, "line 8", "node_rate -2147483648 is -214748.3648 degrees"),
+        ("2834", "200001", 6, rate, "line 9", "perigee_rate 200001 is 20.0001 degrees a day"),
         (
             "1627",
             "100000",
-            "7 at 0: the epoch's revolution is above 99,999",
-            "elements, line 10: epoch_revolution 100000: check its digits",
+            7,
+            "the epoch's revolution is above 99,999",
+            "line 10",
+            "epoch_revolution 100000; check its digits",
         ),
     ] {
-        refused_elements(from, to, verdict, &[told]);
+        let told = format!("yurdelmiz: elements, {place}: {sentence}: {fact}");
+        refused_elements(from, to, &format!("{number} at 0: {sentence}"), &[&told]);
     }
 }
 
@@ -178,7 +179,7 @@ fn lengths() {
         "10 at 0: the telemetry is not a whole number of 16-byte records, or has over 1,024";
     for (length, told) in [
         (15, "telemetry: 15 bytes are 0 records of 16 and 15 more: is the file cut short"),
-        (16_400, "telemetry: 1,025 records: label it in parts of at most 1,024"),
+        (16_400, "telemetry: 1,025 records, and a day has at most 1,024: label it in parts"),
         (100_000, "telemetry: 6,250 records"),
         (100_001, "telemetry: 100,001 bytes are 6,250 records of 16 and 1 more"),
     ] {
@@ -189,6 +190,12 @@ fn lengths() {
     let folder = Folder::with_example();
     folder.write("telemetry", "time,volts,amperes\n1985-08-29T13:45:00Z,14,1\n");
     refused(&folder, sentence, &["it looks like text", "--csv"]);
+    // Labels in place of the telemetry: too long, and with times that are none.
+    let order = "label file: the order is ELEMENTS TELEMETRY LABELS";
+    for labels in [common::LABELS.to_vec(), common::label_file(&[common::LABEL; 2])] {
+        folder.write("telemetry", labels);
+        folder.run(["label", "elements", "telemetry", "none"]).fails(1).tells(&[order]);
+    }
     // A device has no length, and is not read to its end.
     folder
         .run(["label", "elements", "/dev/zero", "none"])

@@ -131,6 +131,28 @@ pub struct Malformed {
 }
 
 impl Malformed {
+    /// What is wrong and what is due, in a sentence without its full stop.
+    pub fn sentence(&self) -> String {
+        let (name, unit) = self.element.map_or(("", ""), |due| (due.name(), due.unit()));
+        match self.fault {
+            Fault::Name => format!(
+                "{name}, one space and a number are due here: each element stands once, in its order"
+            ),
+            Fault::Extra => "only comments may follow the last element".to_owned(),
+            Fault::ControlByte => {
+                "a tab, a carriage return or another control byte stands here".to_owned()
+            }
+            Fault::DecimalPoint => {
+                format!("{name} has a decimal point: write a whole number, in {unit}")
+            }
+            Fault::NotWhole => format!("{name} is not a whole number, in {unit}"),
+            Fault::TooLarge => format!("{name} is too large, in {unit}"),
+            Fault::Unended => "the file ends within this line".to_owned(),
+            Fault::Missing => format!("{name} is missing: the file ends before it"),
+            Fault::TooLong => "the file has more than 65,535 bytes".to_owned(),
+        }
+    }
+
     fn from_result(result: u64) -> Malformed {
         let (status, place) = (result as u32, (result >> 32) as u32);
         let (_, fault) = FAULTS
@@ -147,26 +169,7 @@ impl Malformed {
 
 impl fmt::Display for Malformed {
     fn fmt(&self, f: &mut fmt::Formatter) -> fmt::Result {
-        let (name, unit) = self.element.map_or(("", ""), |due| (due.name(), due.unit()));
-        write!(f, "malformed line {}: ", self.line)?;
-        match self.fault {
-            Fault::Name => write!(
-                f,
-                "{name}, one space and a number are due here: each element stands once, in its order"
-            ),
-            Fault::Extra => f.write_str("only comments may follow the last element"),
-            Fault::ControlByte => {
-                f.write_str("a tab, a carriage return or another control byte stands here")
-            }
-            Fault::DecimalPoint => {
-                write!(f, "{name} has a decimal point: write a whole number, in {unit}")
-            }
-            Fault::NotWhole => write!(f, "{name} is not a whole number, in {unit}"),
-            Fault::TooLarge => write!(f, "{name} is too large, in {unit}"),
-            Fault::Unended => f.write_str("the file ends within this line"),
-            Fault::Missing => write!(f, "{name} is missing: the file ends before it"),
-            Fault::TooLong => f.write_str("the file has more than 65,535 bytes"),
-        }
+        write!(f, "malformed line {}: {}", self.line, self.sentence())
     }
 }
 

@@ -231,7 +231,7 @@ impl<'a> Day<'a> {
             let (revolution, side) = run.key;
             let (left, right) = (self.x(run.from), self.x(run.to));
             let width = right - left;
-            drawing.rect(left, UPPER.top - 7.0, (width - 1.0).max(0.5), 5.0, colour(side));
+            drawing.rect(left, UPPER.top - 7.0, (width - 1.0).max(1.5), 5.0, colour(side));
             if run.meets && width > 20.0 {
                 drawing.line((left, UPPER.top - 7.0), (left, UPPER.bottom), PERIGEE);
                 drawing.line((left, LOWER.top), (left, LOWER.bottom), PERIGEE);
@@ -311,9 +311,10 @@ fn watts_range(watts: &[f64]) -> Option<String> {
     };
     let least = watts.iter().copied().min_by(f64::total_cmp)?;
     let greatest = watts.iter().copied().max_by(f64::total_cmp)?;
-    Some(match least == greatest {
-        true => format!("{} W", shown(least)),
-        false => format!("{} to {} W", shown(least), shown(greatest)),
+    Some(if least == greatest {
+        format!("{} W", shown(least))
+    } else {
+        format!("{} to {} W", shown(least), shown(greatest))
     })
 }
 
