@@ -9,6 +9,7 @@ use orbit::elements::Elements;
 use sun::Direction;
 use sun::Sun;
 use sun::SunAnswer;
+use trig::Sines;
 ghost use Rattle.sun.specs.Contract.{WithinOne};
 
 const EXAMPLE: i64 = -138_406_500;
@@ -116,7 +117,7 @@ fn of_elevation(inclination: u32, node: u32, sun: Sun)
     requires { ⌜ WithinOne (sun .direction) ⌝ }
 {
     let direction = sun.direction;
-    let sine = eclipse::elevation(inclination, node, direction);
+    let sine = eclipse::elevation(Sines::of(inclination), Sines::of(node), direction);
     component(b"elevation sine", wide(sine), 874);
 }
 
