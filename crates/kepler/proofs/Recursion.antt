@@ -134,5 +134,12 @@ shifted from width left p = rw (← p)
 pub lower-end-le : (from width : ℕ) → lowerEnd width from ≤ from
 lower-end-le from width = div-mul-le-self from width
 
-pub whole-turn : (from : ℕ) → from < 2 ^ 32 → lowerEnd (2 ^ 32) from ≡ 0
-whole-turn from l = omega arith
+module _ (e M from to : ℕ) (d : Decides e M 0 from to) where
+  whole-turn : lowerEnd (2 ^ 32) from ≡ 0
+  whole-turn = omega (arith, d .small)
+
+  pub decides-turn : Decides e M (lowerEnd (2 ^ 32) from) from to
+  decides-turn = rw whole-turn d
+
+  pub halved-turn : (r : ℕ) → r ≡ halve e M (lowerEnd (2 ^ 32) from) 32 → r ≡ halve e M 0 32
+  halved-turn r i = rw whole-turn at i

@@ -8,7 +8,7 @@ use native.Mathlib.Omega.{arith}
 use lib.IntN.{natAbs}
 use Rattle.integer.proofs.Ring.{ring}
 use Rattle.trig.specs.Sine.{S}
-use Rattle.trig.proofs.Slope.{Sloped, Rising, magnitude-sloped, magnitude-second, magnitude-third}
+use Rattle.trig.proofs.Slope.{Rising, magnitude-sloped, magnitude-second, magnitude-third}
 use Rattle.kepler.specs.Kepler.{g, h, equation}
 use Rattle.kepler.specs.Contract.{slack}
 use Rattle.kepler.proofs.Halves.{cuts, h-le, k-upper, k-lower}
@@ -72,27 +72,22 @@ module _ (e E E' w : ℕ) (he : e ≤ 9_000_000) where
       let y : e * w + w ≤ 3 * ((e / 3 + 1) * w) = omega (arith, simp (add-mul, one-mul, mul-assoc) at (mul-le-mul-right w t), mul-assoc 3 (e / 3 + 1) w) in
       h-rises e E E' (2 * (e * w * 1_686_629_713)) ((e / 3 + 1) * w) a (third-share (e * w) w ((e / 3 + 1) * w) few y)
 
-pub k-rises : (e E w : ℕ) → e ≤ 9_000_000 → E + w ≤ 2 ^ 32 → equation e E * 10 ^ 7 + w * 10 ^ 7 < equation e (E + w) * 10 ^ 7 + (e + 1) * w + slack e
-k-rises e E w he hE = either (decLt (E + w) (2 ^ 31)) (decLt E (2 ^ 31))
-  where
-    s : Sloped (min w (2 ^ 30)) (natAbs (S E)) (natAbs (S (E + w)))
-    s = magnitude-sloped E w
+-- from h to k, which has h with the sign of the half of the turn
+module _ (e E w y : ℕ) (he : e ≤ 9_000_000) (hE : E + w ≤ 2 ^ 32) (up : E + w < 2 ^ 31 → h e (E + w) * 10 ^ 7 < h e E * 10 ^ 7 + y + slack e) (down : 2 ^ 31 ≤ E → h e E * 10 ^ 7 < h e (E + w) * 10 ^ 7 + y + slack e) where
+  k-from-h : Dec (E + w < 2 ^ 31) → Dec (E < 2 ^ 31) → equation e E * 10 ^ 7 + w * 10 ^ 7 < equation e (E + w) * 10 ^ 7 + y + slack e
+  k-from-h (yes u) d =
+      omega (arith, up u, k-upper e (E + w) u, k-upper e E (omega arith), h-le e E he, h-le e (E + w) he)
+  k-from-h (no f) (yes u) =
+      omega (arith, k-lower e (E + w) (omega (arith, lt-of-not-le f)) hE, k-upper e E u)
+  k-from-h (no f) (no g) =
+      let l : 2 ^ 31 ≤ E = omega (arith, lt-of-not-le g) in
+      omega (arith, down l, k-lower e (E + w) (omega arith) hE, k-lower e E l (omega arith))
 
-    either : Dec (E + w < 2 ^ 31) → Dec (E < 2 ^ 31) → equation e E * 10 ^ 7 + w * 10 ^ 7 < equation e (E + w) * 10 ^ 7 + (e + 1) * w + slack e
-    either (yes u) d =
-        omega (arith, h-sloped e E (E + w) w he (s .right), k-upper e (E + w) u, k-upper e E (omega arith), h-le e E he, h-le e (E + w) he)
-    either (no f) (yes u) =
-        omega (arith, k-lower e (E + w) (omega (arith, lt-of-not-le f)) hE, k-upper e E u)
-    either (no f) (no g) =
-        omega (arith, h-sloped e (E + w) E w he (s .left), k-lower e (E + w) (omega (arith, lt-of-not-le f)) hE, k-lower e E (omega (arith, lt-of-not-le g)) (omega arith))
+pub k-rises : (e E w : ℕ) → e ≤ 9_000_000 → E + w ≤ 2 ^ 32 → equation e E * 10 ^ 7 + w * 10 ^ 7 < equation e (E + w) * 10 ^ 7 + (e + 1) * w + slack e
+k-rises e E w he hE =
+    let s = magnitude-sloped E w in
+    k-from-h e E w ((e + 1) * w) he hE (λ u. h-sloped e E (E + w) w he (s .right)) (λ l. h-sloped e (E + w) E w he (s .left)) (decLt (E + w) (2 ^ 31)) (decLt E (2 ^ 31))
 
 pub k-rises-middle : (e E w : ℕ) → e ≤ 9_000_000 → 2 ^ 30 ≤ E → E + w ≤ 3 * 2 ^ 30 → equation e E * 10 ^ 7 + w * 10 ^ 7 < equation e (E + w) * 10 ^ 7 + (e / 3 + 1) * w + slack e
-k-rises-middle e E w he l hE = either (decLt (E + w) (2 ^ 31)) (decLt E (2 ^ 31))
-  where
-    either : Dec (E + w < 2 ^ 31) → Dec (E < 2 ^ 31) → equation e E * 10 ^ 7 + w * 10 ^ 7 < equation e (E + w) * 10 ^ 7 + (e / 3 + 1) * w + slack e
-    either (yes u) d =
-        omega (arith, h-rising e E (E + w) w he (magnitude-second E w l (omega arith)), k-upper e (E + w) u, k-upper e E (omega arith), h-le e E he, h-le e (E + w) he)
-    either (no f) (yes u) =
-        omega (arith, k-lower e (E + w) (omega (arith, lt-of-not-le f)) (omega arith), k-upper e E u)
-    either (no f) (no g) =
-        omega (arith, h-rising e (E + w) E w he (magnitude-third E w (omega (arith, lt-of-not-le g)) hE), k-lower e (E + w) (omega (arith, lt-of-not-le f)) (omega arith), k-lower e E (omega (arith, lt-of-not-le g)) (omega arith))
+k-rises-middle e E w he l hE =
+    k-from-h e E w ((e / 3 + 1) * w) he (omega arith) (λ u. h-rising e E (E + w) w he (magnitude-second E w l (omega arith))) (λ g. h-rising e (E + w) E w he (magnitude-third E w g hE)) (decLt (E + w) (2 ^ 31)) (decLt E (2 ^ 31))

@@ -53,11 +53,10 @@ fn raised(e: u64, m: u64, from: u64, to: u64, middle: u64) -> u64
     let beyond = std::num::wrapping_sub_u64(middle, from + 1);
     if beyond < to - from - 1 {
         let k = equation(e, middle);
-        if k <= m {
-            return middle;
-        }
+        if k <= m { middle } else { from }
+    } else {
+        from
     }
-    from
 }
 
 // The lower end after the halvings that are left, of the interval of `width` angles that `from` lies in. Up to `from` k is at most m, and from

@@ -2,6 +2,7 @@
 //!
 //!     bench [REPEATS]
 //!     bench once RECORDS      labels and reads one day, for a counter of instructions
+//!     bench kepler ECCENTRICITY SOLUTIONS     solves Kepler's equation, for the same
 //!
 //! Each repeat times both, one after the other, and gives a ratio; printed are the median times,
 //! the median ratio, and the least and greatest ratio over the repeats.
@@ -119,7 +120,7 @@ fn compare(repeats: usize, library: &mut dyn FnMut(), reference: &mut dyn FnMut(
 fn print(name: &str, comparison: &Comparison) {
     let Comparison { library, reference, ratio, least, greatest } = comparison;
     println!(
-        "{name:<26} {:>10.3} us {:>10.3} us {ratio:>7.2} ({least:.2} to {greatest:.2})",
+        "{name:<28} {:>10.3} us {:>10.3} us {ratio:>7.2} ({least:.2} to {greatest:.2})",
         library / 1e3,
         reference / 1e3,
     );
@@ -202,27 +203,51 @@ fn read(repeats: usize) -> Comparison {
     )
 }
 
-/// One solution, over mean anomalies all around the orbit.
-fn kepler(repeats: usize) -> Comparison {
-    const STEP: u32 = 0x9e37_79b9;
-    let (mut first, mut second) = (0_u32, 0_u32);
-    compare(
-        repeats,
-        &mut || {
-            first = first.wrapping_add(STEP);
-            let anomaly = yurdelmiz::kepler(ELEMENTS.eccentricity, black_box(first));
-            black_box(anomaly.expect("an accepted eccentricity"));
-        },
-        &mut || {
-            second = second.wrapping_add(STEP);
-            let anomaly = reference::kepler::solve(ELEMENTS.eccentricity, black_box(second));
-            black_box(anomaly.expect("an accepted eccentricity"));
-        },
-    )
+/// Eccentricities of a nearly circular orbit, of Oscar-10 and of the limit.
+const ECCENTRICITIES: [u32; 3] = [1_000, ELEMENTS.eccentricity, 9_000_000];
+
+/// Mean anomalies all around the orbit, one after another in no order.
+struct MeanAnomalies(u32);
+
+impl MeanAnomalies {
+    fn next(&mut self) -> u32 {
+        self.0 = self.0.wrapping_add(0x9e37_79b9);
+        black_box(self.0)
+    }
+}
+
+fn solve(eccentricity: u32, mean_anomaly: u32) {
+    let anomaly = yurdelmiz::kepler(eccentricity, mean_anomaly);
+    black_box(anomaly.expect("an accepted eccentricity"));
+}
+
+fn reference_solve(eccentricity: u32, mean_anomaly: u32) {
+    let anomaly = reference::kepler::solve(eccentricity, mean_anomaly);
+    black_box(anomaly.expect("an accepted eccentricity"));
+}
+
+/// One solution.
+fn kepler(repeats: usize, eccentricity: u32) -> Comparison {
+    let (mut first, mut second) = (MeanAnomalies(0), MeanAnomalies(0));
+    compare(repeats, &mut || solve(eccentricity, first.next()), &mut || {
+        reference_solve(eccentricity, second.next())
+    })
+}
+
+/// Solutions by the library and as many by the reference: to be run under a counter of
+/// instructions.
+fn solutions(eccentricity: u32, count: u32) {
+    let (mut first, mut second) = (MeanAnomalies(0), MeanAnomalies(0));
+    for _ in 0..count {
+        solve(eccentricity, first.next());
+        reference_solve(eccentricity, second.next());
+    }
 }
 
 fn usage() -> ! {
-    eprintln!("usage: bench [REPEATS]\n       bench once RECORDS");
+    eprintln!(
+        "usage: bench [REPEATS]\n       bench once RECORDS\n       bench kepler ECCENTRICITY SOLUTIONS"
+    );
     std::process::exit(2);
 }
 
@@ -234,6 +259,12 @@ fn main() {
             Ok(records) if records <= DAY_RECORDS => return once(records),
             _ => usage(),
         },
+        ["kepler", eccentricity, count] => match (eccentricity.parse(), count.parse()) {
+            (Ok(eccentricity), Ok(count)) if eccentricity <= 9_000_000 => {
+                return solutions(eccentricity, count)
+            }
+            _ => usage(),
+        },
         [word] => match word.parse() {
             Ok(repeats) if repeats > 0 => repeats,
             _ => usage(),
@@ -241,7 +272,10 @@ fn main() {
         _ => usage(),
     };
     println!("{repeats} repeats: library, reference, library / reference (least to greatest)");
-    print("Kepler's equation", &kepler(repeats));
+    for eccentricity in ECCENTRICITIES {
+        let name = format!("Kepler's equation, e {}", f64::from(eccentricity) / 1e7);
+        print(&name, &kepler(repeats, eccentricity));
+    }
     print("reading 1,024 labels", &read(repeats));
     print("labelling 1,024 records", &label(repeats, DAY_RECORDS));
 

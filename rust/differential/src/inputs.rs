@@ -1,6 +1,8 @@
 //! Random and edge inputs.
 
+use reference::kepler::{mean_anomaly_of, ECCENTRICITY_MAX};
 use reference::orbit::Elements;
+use reference::sine::sine;
 
 use crate::random::Random;
 
@@ -45,6 +47,50 @@ fn accepted_eccentricity(random: &mut Random) -> u32 {
         3 => 606_756,
         _ => within(random, 0, 9_000_000) as u32,
     }
+}
+
+/// Where the sine goes back by a step or more: from `angle` to the next it falls in a quarter in
+/// which it rises, or rises in one in which it falls.
+fn turns_back(angle: u32) -> bool {
+    let (here, next) = (sine(angle), sine(angle.wrapping_add(1)));
+    match angle >> 30 {
+        0 | 3 => next < here,
+        _ => next > here,
+    }
+}
+
+/// An eccentric anomaly, from 0 to a whole turn: any, next to the end of a quarter, or next to an
+/// angle where the sine turns back (about one in a hundred).
+fn eccentric_anomaly(random: &mut Random) -> i64 {
+    let angle = random.u32();
+    match random.below(4) {
+        0 => {
+            let quarter = random.pick(&[0, 1, 2, 2, 3, 4, 4]) << 30;
+            (quarter + random.between(-100, 100)).clamp(0, 1 << 32)
+        }
+        1 => i64::from(angle),
+        _ => {
+            let steps = (0..1_000).find(|&step| turns_back(angle.wrapping_add(step)));
+            let angle = angle.wrapping_add(steps.unwrap_or(0));
+            (i64::from(angle) + random.between(-1, 2)).clamp(0, 1 << 32)
+        }
+    }
+}
+
+/// An eccentricity and a mean anomaly. Most mean anomalies are those of an eccentric anomaly, or one
+/// beside: there the halving's last step is decided by a single unit.
+pub fn kepler(random: &mut Random) -> (u32, u32) {
+    let eccentricity = match random.below(8) {
+        0 => 1,
+        1 => 9_000_000,
+        _ => eccentricity(random),
+    };
+    if eccentricity > ECCENTRICITY_MAX || random.one_in(4) {
+        return (eccentricity, angle(random));
+    }
+    let anomaly = eccentric_anomaly(random);
+    let mean = mean_anomaly_of(eccentricity, anomaly) + random.between(-1, 1);
+    (eccentricity, mean.clamp(0, i64::from(u32::MAX)) as u32)
 }
 
 /// The least semi-major axis that the perigee allows.

@@ -15,7 +15,7 @@ pub fn sine(random: &mut Random, report: &mut Report) {
 }
 
 pub fn kepler(random: &mut Random, report: &mut Report) {
-    let (eccentricity, mean_anomaly) = (inputs::eccentricity(random), inputs::angle(random));
+    let (eccentricity, mean_anomaly) = inputs::kepler(random);
     let library = yurdelmiz::kepler(eccentricity, mean_anomaly)
         .map(|anomaly| (anomaly.angle, anomaly.halvings))
         .map_err(|refusal| (refusal.number(), 0));

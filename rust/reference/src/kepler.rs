@@ -20,7 +20,7 @@ pub struct EccentricAnomaly {
 }
 
 /// k(E): the mean anomaly of the eccentric anomaly `anomaly`, from 0 to a whole turn.
-fn mean_anomaly_of(eccentricity: u32, anomaly: i64) -> i64 {
+pub fn mean_anomaly_of(eccentricity: u32, anomaly: i64) -> i64 {
     // The wrap at a whole turn is harmless: S is 0 there.
     let s = sine(anomaly as u32);
     let g = i64::from(eccentricity) * s.abs() / i64::from(ECCENTRICITY_ONE);
