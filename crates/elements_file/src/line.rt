@@ -97,7 +97,7 @@ fn begun(element: u32, byte: u8) -> Place
 
 // The line with a further byte that does not end it. The reader keeps the element and the place together,
 // which is what the `requires` asks.
-pub fn within(place: Place, element: u32, byte: u8) -> Place
+pub(crate) fn within(place: Place, element: u32, byte: u8) -> Place
     requires { ⌜ (element ≤ 11) × Fitting element place ⌝ }
     ensures { λ r. ⌜ r ≡ within place element byte ⌝ }
 {

@@ -18,7 +18,7 @@ const NAMES: [u8; 220] = *b"\
     epoch               ";
 
 // Byte k of the row of an element. The reader has an element that is due by then, and k counts its bytes.
-pub fn byte(element: u32, k: usize) -> u8
+pub(crate) fn byte(element: u32, k: usize) -> u8
     requires { ⌜ NameAt element k ⌝ }
     ensures { λ r. ⌜ r ≡ nameByte element k ⌝ }
 {

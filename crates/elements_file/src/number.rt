@@ -17,7 +17,7 @@ fn is_rate(element: u32) -> bool
 }
 
 // The largest magnitude that an element holds.
-pub fn largest(element: u32, negative: bool) -> u64
+pub(crate) fn largest(element: u32, negative: bool) -> u64
     ensures { λ r. ⌜ r ≡ largest element negative ⌝ }
 {
     if element == 10 {
@@ -35,7 +35,7 @@ pub fn largest(element: u32, negative: bool) -> u64
     0xffff_ffff
 }
 
-pub fn is_digit(byte: u8) -> bool
+pub(crate) fn is_digit(byte: u8) -> bool
     ensures { λ r. ⌜ r ≡ isDigit byte ⌝ }
 {
     if byte < b'0' {
@@ -46,7 +46,7 @@ pub fn is_digit(byte: u8) -> bool
 
 impl Number {
     // Whether a minus may stand next.
-    pub fn takes_minus(self, element: u32) -> bool
+    pub(crate) fn takes_minus(self, element: u32) -> bool
         ensures { λ r. ⌜ r ≡ takesMinus element self ⌝ }
     {
         if self.negative {
@@ -63,7 +63,7 @@ impl Number {
 
     // The number with its sign. A number is read as far as its element holds it, and 64 bits hold every
     // element: this is what the `requires` asks.
-    pub fn signed(self) -> i64
+    pub(crate) fn signed(self) -> i64
         requires { ⌜ self .magnitude ≤ largest 10 (self .negative) ⌝ }
         ensures { λ r. ⌜ r ≡ signedOf self ⌝ }
     {

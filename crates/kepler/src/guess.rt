@@ -71,7 +71,7 @@ fn folded(angle: u64) -> u64
     }
 }
 
-pub fn guess(eccentricity: u32, mean_anomaly: u32) -> u64
+pub(crate) fn guess(eccentricity: u32, mean_anomaly: u32) -> u64
     requires { ⌜ eccentricity ≤ 9_000_000 ⌝ }
     ensures { λ r. ⌜ r ≤ 2 ^ 32 ⌝ }
 {

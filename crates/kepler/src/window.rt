@@ -15,7 +15,7 @@ pub struct Window {
 }
 
 // a - b, and 0 where that would be below 0.
-pub fn less(a: u64, b: u64) -> u64
+pub(crate) fn less(a: u64, b: u64) -> u64
     ensures { λ r. ⌜ r ≡ a - b ⌝ }
 {
     if b <= a { a - b } else { 0 }
@@ -47,7 +47,7 @@ fn around(e: u64, share: u64, m: u64, guess: u64, k: u64) -> Window
 
 // The window round a guess whose k is given. It holds whatever the guess is, and is narrow where the guess is good. In the second and the third
 // quarter k rises faster.
-pub fn of_guess(e: u64, m: u64, guess: u64, k: u64) -> Window
+pub(crate) fn of_guess(e: u64, m: u64, guess: u64, k: u64) -> Window
     requires { ⌜ (e ≤ 9_000_000) × (m < 2 ^ 32) × (guess ≤ 2 ^ 32) × Bounded (2 ^ 33) (equation e guess) k ⌝ }
     ensures { λ r. ⌜ Decides e m 0 (r .from) (r .to) ⌝ }
 {

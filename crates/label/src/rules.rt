@@ -26,7 +26,7 @@ fn watts_allowed(code: u8, watts: u32) -> bool
     }
 }
 
-pub fn keeps_rules(fields: Fields) -> bool
+pub(crate) fn keeps_rules(fields: Fields) -> bool
     ensures { λ r. ⌜ r ≡ keepsRules fields ⌝ }
 {
     if !time::in_range(fields.time) {

@@ -36,7 +36,7 @@ fn allowed(stated: Counts, distance: u32, size: usize) -> bool
 }
 
 // The trailer of the last 16 bytes of a file, which its reader has found there.
-pub fn read_trailer(bytes: &[u8], size: usize) -> TrailerReading
+pub(crate) fn read_trailer(bytes: &[u8], size: usize) -> TrailerReading
     requires { ⌜ trailerSize ≤ length (now bytes) ⌝ }
     ensures { λ r. ⌜ r ≡ trailerOf (now (bytes .entry)) size ⌝ }
 {

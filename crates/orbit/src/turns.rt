@@ -51,7 +51,7 @@ fn revolution(first: u32, passages: i64) -> i32
 }
 
 // The revolution changes where the mean anomaly passes perigee.
-pub fn phase_at(elements: Elements, time: i64) -> Phase
+pub(crate) fn phase_at(elements: Elements, time: i64) -> Phase
     requires { ⌜ checkedAt elements time ≡ Passed ⌝ }
     ensures { λ r. ⌜ PhaseAt elements time r ⌝ }
 {
@@ -81,7 +81,7 @@ fn drift(angle: u32, rate: i32, elapsed: i64) -> u32
 }
 
 // The drifted angle at a time, with its sines.
-pub fn drift_at(elements: Elements, time: i64, angle: u32, rate: i32) -> Sines
+pub(crate) fn drift_at(elements: Elements, time: i64, angle: u32, rate: i32) -> Sines
     requires { ⌜ (checkedAt elements time ≡ Passed) × Within 200_000 rate ⌝ }
     ensures { λ r. ⌜ SinesAt (drifted angle rate (elapsedOf elements time)) r ⌝ }
 {

@@ -32,7 +32,7 @@ fn write_words(answer: &mut [u8], at: usize, numbers: &[u32])
     }
 }
 
-pub fn write_anomaly(answer: &mut [u8], anomaly: Anomaly)
+pub(crate) fn write_anomaly(answer: &mut [u8], anomaly: Anomaly)
     requires { ⌜ length (now answer) ≡ 8 ⌝ }
     ensures { λ _. ⌜ now (answer .exit) ≡ anomalyBytes anomaly ⌝ }
 {
@@ -48,7 +48,7 @@ fn component_bits(component: i64) -> u32
     integer::bits_of_i32(component as i32)
 }
 
-pub fn write_sun(answer: &mut [u8], sun: Sun)
+pub(crate) fn write_sun(answer: &mut [u8], sun: Sun)
     requires { ⌜ (length (now answer) ≡ 28) × WithinOne (sun .direction) ⌝ }
     ensures { λ _. ⌜ now (answer .exit) ≡ sunBytes sun ⌝ }
 {
@@ -75,7 +75,7 @@ fn write_position(answer: &mut [u8], at: usize, position: Position)
 }
 
 // The radius is at most that of the highest apogee.
-pub fn write_state(answer: &mut [u8], state: State, earth_fixed: Position)
+pub(crate) fn write_state(answer: &mut [u8], state: State, earth_fixed: Position)
     requires { ⌜ (length (now answer) ≡ 68) × (natAbs (state .radius) < 2 ^ 32) ⌝ }
     ensures { λ _. ⌜ now (answer .exit) ≡ stateBytes state «earth_fixed» ⌝ }
 {
@@ -92,7 +92,7 @@ pub fn write_state(answer: &mut [u8], state: State, earth_fixed: Position)
     write_position(answer, 44, earth_fixed);
 }
 
-pub fn write_elements(answer: &mut [u8], elements: Elements)
+pub(crate) fn write_elements(answer: &mut [u8], elements: Elements)
     requires { ⌜ length (now answer) ≡ 48 ⌝ }
     ensures { λ _. ⌜ now (answer .exit) ≡ elementsBytes elements ⌝ }
 {
@@ -112,7 +112,7 @@ pub fn write_elements(answer: &mut [u8], elements: Elements)
     write_words(answer, 8, &numbers);
 }
 
-pub fn write_counts(answer: &mut [u8], counts: Counts)
+pub(crate) fn write_counts(answer: &mut [u8], counts: Counts)
     requires { ⌜ length (now answer) ≡ 12 ⌝ }
     ensures { λ _. ⌜ now (answer .exit) ≡ countsBytes counts ⌝ }
 {
@@ -120,7 +120,7 @@ pub fn write_counts(answer: &mut [u8], counts: Counts)
     write_words(answer, 0, &numbers);
 }
 
-pub fn fault_number(fault: Fault) -> u32
+pub(crate) fn fault_number(fault: Fault) -> u32
     ensures { λ r. ⌜ r ≡ faultNumber fault ⌝ }
 {
     match fault {
@@ -137,7 +137,7 @@ pub fn fault_number(fault: Fault) -> u32
 }
 
 // A file of 65,535 bytes has at most 65,536 lines, and 11 elements.
-pub fn fault_place(line: usize, element: u32) -> u32
+pub(crate) fn fault_place(line: usize, element: u32) -> u32
     requires { ⌜ (line ≤ 65_536) × (element ≤ 11) ⌝ }
     ensures { λ r. ⌜ r ≡ faultPlace line element ⌝ }
 {
@@ -145,7 +145,7 @@ pub fn fault_place(line: usize, element: u32) -> u32
 }
 
 // A number, and a place above it.
-pub fn status_at(number: u32, place: u32) -> u64
+pub(crate) fn status_at(number: u32, place: u32) -> u64
     ensures { λ r. ⌜ r ≡ statusAt number place ⌝ }
 {
     number as u64 + 0x1_0000_0000 * (place as u64)

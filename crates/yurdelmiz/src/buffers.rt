@@ -5,7 +5,7 @@ ghost use Rattle.yurdelmiz.specs.Buffers.{elementsOf};
 use orbit::elements::Elements;
 
 // The elements in a buffer whose length is found to be the header's.
-pub fn read_elements(bytes: &[u8]) -> Elements
+pub(crate) fn read_elements(bytes: &[u8]) -> Elements
     requires { ⌜ length (now bytes) ≡ 48 ⌝ }
     ensures { λ r. ⌜ r ≡ elementsOf (now (bytes .entry)) ⌝ }
 {
