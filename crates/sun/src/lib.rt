@@ -13,20 +13,23 @@ use trig::TURN;
 
 const HALF_TURN: u32 = trig::HALF_TURN as u32;
 
-// What every time shares is computed once: proofs/Constants.antt has the proof of each of these numbers.
-// MA and ML at 1990 Jan 0.0: angle(3,566,349) and angle(2,794,033).
+// What every time shares, computed once: proofs/Constants.antt proves each number.
+// angle(3,566,349): MA at 1990 Jan 0.0.
 const MEAN_ANOMALY_AT_EPOCH: u32 = 4_254_820_089;
 
+// angle(2,794,033): ML at 1990 Jan 0.0.
 const MEAN_LONGITUDE_AT_EPOCH: u32 = 3_333_411_210;
 
-// The two terms of the equation of the centre: angle(19,151) and angle(200).
+// angle(19,151): the equation of the centre's term in MA.
 const CENTRE_OF_ONCE: i64 = 22_848_032;
 
+// angle(200): its term in twice MA.
 const CENTRE_OF_TWICE: i64 = 238_609;
 
-// C and S of the obliquity of the ecliptic, angle(234,406).
+// C of the obliquity of the ecliptic, angle(234,406).
 const OBLIQUITY_COSINE: i64 = 985_129_105;
 
+// S of the obliquity.
 const OBLIQUITY_SINE: i64 = 427_132_473;
 
 // A direction in the celestial frame, in units of 2^-30.
