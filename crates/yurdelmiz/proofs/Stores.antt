@@ -1,5 +1,5 @@
 -- What is stored in a buffer. Assumes nothing.
-use mathlib.Core.Path.{_≡_, _∙_}
+use mathlib.Core.Path.{_≡_, refl, sym, _∙_}
 use mathlib.Core.List.{List, [], _∷_, append-nil}
 use Prim.Native.Nat.{ℕ, _+_, _*_, _<_, _≤_}
 use native.Mathlib.Numerals.{add-one}
@@ -28,3 +28,12 @@ word-stored l at i ws h =
 pub words-stored : (l : List ℕ) (at i : ℕ) (ws : List ℕ) → length ws ≤ i → sets l (at + 4 * i) (words (drop i ws)) ≡ l
 unfolding words
 words-stored l at i ws h = rw (drop-of-length-le)
+
+words-length : (ws : List ℕ) → length (words ws) ≡ 4 * length ws
+unfolding words bytes4
+words-length [] = refl
+words-length (w ∷ ws) = omega (arith, words-length ws)
+
+-- numbers that fill a buffer
+pub words-fill : (l ws : List ℕ) → length l ≡ 4 * length ws → sets l 0 (words ws) ≡ words ws
+words-fill l ws e = over-all l (words ws) (e ∙ sym (words-length ws))

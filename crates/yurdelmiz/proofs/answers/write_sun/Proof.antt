@@ -3,10 +3,8 @@ use mathlib.Core.Path.{_∙_}
 use mir.Syntax.{w64}
 use mir.Val.{SFits}
 use mir.Facts.{toZ-ofZ}
-use denote.Ref.{now}
-use Rattle.endian.specs.LittleEndian.{bytes4}
-use Rattle.yurdelmiz.specs.Answers.{words, sunBytes}
-use Rattle.yurdelmiz.proofs.Stores.{over-all}
+use Rattle.yurdelmiz.specs.Answers.{sunBytes}
+use Rattle.yurdelmiz.proofs.Stores.{words-fill}
 use borrow.Author.Needs.{needs}
 use Rattle.yurdelmiz.proofs.answers.write_sun.Statement.{statement}
 use Rattle.yurdelmiz.proofs.answers.write_sun.Tie as tie
@@ -15,7 +13,7 @@ fits : (s : tie.Start) → let d = s .args .sun .direction in SFits w64 (d .x) �
 fits s = (search needs, search needs, search needs)
 
 returns : tie.Need-returns
-unfolding sunBytes words bytes4
+unfolding sunBytes
 returns c =
     let w = c .before .before in
     let z = w .before .before .before in
@@ -24,7 +22,7 @@ returns c =
     let s = x .before .before .before .before in
     let f = fits s in
     let bytes = rw (rw (toZ-ofZ (f .0)) at (x .component-bits .ensures), rw (toZ-ofZ (f .1)) at (y .component-bits2 .ensures), rw (toZ-ofZ (f .2)) at (z .component-bits3 .ensures)) at (w .write-words .ensures) in
-    bytes ∙ over-all (now (s .args .answer)) (sunBytes (s .args .sun)) (s .pre .0)
+    bytes ∙ words-fill _ _ (s .pre .0)
 
 pub write-sun-spec : {M : Type 1} → statement M
 write-sun-spec =
