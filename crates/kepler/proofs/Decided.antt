@@ -9,8 +9,8 @@ use Rattle.kepler.specs.Contract.{Reaches, slack, Around, Decides}
 use Rattle.kepler.proofs.Halves.{k-zero}
 use Rattle.kepler.proofs.Rises.{k-rises, k-rises-middle}
 
-pub reached : (part slack need have d : ℕ) → 1 ≤ part → slack ≤ 38_450_000 → need ≤ 2 ^ 33 → d ≡ need * 10 ^ 7 + slack - have * 10 ^ 7 → Reaches part slack need have (d / part + 1)
-reached part slack need have d p hs hn i =
+pub reached : (part cuts need have d : ℕ) → 1 ≤ part → cuts ≤ 38_450_000 → need ≤ 2 ^ 33 → d ≡ need * 10 ^ 7 + cuts - have * 10 ^ 7 → Reaches part cuts need have (d / part + 1)
+reached part cuts need have d p hs hn i =
     let m : (d / part + 1) * part ≡ d / part * part + 1 * part = add-mul (d / part) 1 part in
     record { reaches = omega (arith, m, one-mul part, lt-div-mul-add {a = d} p); some = omega arith; small = omega (arith, div-le-self d part) }
 

@@ -39,7 +39,7 @@ module _ (e M from to middle : ℕ) (d : DecidesAt e M from to middle) where
 pub record HalfLeft (e M to low left half next r : ℕ) : Type 0 where
   pub fits : next + half ≤ 2 ^ 32
   pub decides : Decides e M next r to
-  pub is : halve e M next (left - 1) ≡ halve e M low left
+  pub is : (x : ℕ) → x ≡ halve e M next (left - 1) → x ≡ halve e M low left
 
 rounded : (q half r : ℕ) → q * half ≤ r → r < q * half + half → lowerEnd half r ≡ q * half
 rounded q half r l h =
@@ -58,7 +58,7 @@ module _ (e M from to low half n q r : ℕ) (p : half ≡ 2 ^ n) (twice : low �
       rw end (record {
         fits = hm;
         decides = record { small = omega (arith, d .small); fits = d .fits; below = below j; above = d .above };
-        is = rw (less-one, p) (sym (halve-up e M low n (rw (← p) k)));
+        is = λ x j. rw (halve-up e M low n (rw (← p) k), ← p, ← less-one) j;
       })
     where
       below : r ≡ max from (low + half) → (E : ℕ) → low + half ≤ E → E ≤ r → equation e E ≤ M
@@ -76,7 +76,7 @@ module _ (e M from to low half n q r : ℕ) (p : half ≡ 2 ^ n) (twice : low �
       either (no f) =
           let j : r ≡ from = rw (lt-leb (equation e (low + half)) M k) at i in
           let end : lowerEnd half from ≡ low = rounded (q + q) half from (omega arith) (omega (arith, lt-of-not-le f)) ∙ sym twice in
-          rw (j, end) (record { fits = omega arith; decides = d; is = rw less-one (sym (halve-down e M low n (rw (← p) k))) })
+          rw (j, end) (record { fits = omega arith; decides = d; is = λ x j. rw (halve-down e M low n (rw (← p) k), ← less-one) j })
 
   went : Dec (equation e (low + half) ≤ M) → HalfLeft e M to low (suc n) half (lowerEnd half r) r
   went (yes k) = went-up k

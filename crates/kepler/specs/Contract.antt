@@ -11,9 +11,9 @@ use Rattle.kepler.specs.Kepler.{equation, anomaly, halvings}
 use Rattle.kepler.specs.Demand.{Demand3}
 use Rattle.kepler.specs.Solution.{solution}
 
--- r times the part, less the slack, reaches what is needed from what there is
-pub record Reaches (part slack need have r : ℕ) : Type 0 where
-  pub reaches : need * 10 ^ 7 + slack ≤ have * 10 ^ 7 + r * part
+-- r angles with a part each, in units of 10^-7, reach what is needed from what there is, and what the cuts take besides
+pub record Reaches (part cuts need have r : ℕ) : Type 0 where
+  pub reaches : need * 10 ^ 7 + cuts ≤ have * 10 ^ 7 + r * part
   pub some : 1 ≤ r
   pub small : r ≤ 2 ^ 57
 

@@ -6,7 +6,7 @@ use crate::window::less;
 use trig::HALF_TURN;
 use trig::TURN;
 
-// The part a of b.
+// The part a of b, with a in these units.
 fn part(a: u64, b: u64) -> u64
     requires { ⌜ (a ≤ 2 ^ 31) × (b ≤ 2 ^ 32) ⌝ }
     ensures { λ r. ⌜ r ≤ b ⌝ }

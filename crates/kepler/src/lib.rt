@@ -15,7 +15,7 @@ use trig::TURN;
 // The unit of eccentricity: this many make 1.
 const UNIT: u64 = 10_000_000;
 
-// The halvings made, which leave one angle of a whole turn.
+// The halvings made: they leave one angle of a whole turn.
 const HALVINGS: u64 = 32;
 
 // An eccentric anomaly, with the number of halvings made.
@@ -44,8 +44,9 @@ fn equation(e: u64, angle: u64) -> u64
     }
 }
 
-// `from`, raised to the middle where the middle becomes the lower end and is beyond it. That the middle lies between `from` and `to` is one
-// test, most often false: on which side of them it lies could not be foreseen. Where the middle is not beyond `from`, the difference wraps.
+// `from`, or the middle where that becomes the lower end and lies beyond it. k is evaluated only where the middle lies between `from` and `to`,
+// which is one test, most often false: on which side of them the middle lies could not be foreseen. Where it is not beyond `from`, the
+// difference wraps and is great.
 fn raised(e: u64, m: u64, from: u64, to: u64, middle: u64) -> u64
     requires { ⌜ (e ≤ 9_000_000) × DecidesAt e m from to middle ⌝ }
     ensures { λ r. ⌜ r ≡ raisedTo e m from middle ⌝ }
@@ -59,9 +60,8 @@ fn raised(e: u64, m: u64, from: u64, to: u64, middle: u64) -> u64
     }
 }
 
-// The lower end after the halvings that are left, of the interval of `width` angles that `from` lies in. Up to `from` k is at most m, and from
-// `to` on it is above m, so that most halvings need no evaluation of k: the half that `from` lies in is the one that is left. Only a middle
-// between the two is evaluated.
+// The lower end after the halvings that are left, of the interval of `width` angles that `from` lies in. Most halvings need no evaluation of k:
+// up to `from` it is at most m, and from `to` on it is above m, so that the half in which `from` lies is the one that is left.
 fn halve(e: u64, m: u64, from: u64, to: u64, width: u64, left: u64) -> u64
     requires { ⌜ (e ≤ 9_000_000) × (width ≡ 2 ^ left) × (left ≤ 32) × (lowerEnd width from + width ≤ 2 ^ 32) × Decides e m (lowerEnd width from) from to ⌝ }
     ensures { λ r. ⌜ r ≡ halve e m (lowerEnd width from) left ⌝ }

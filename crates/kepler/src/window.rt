@@ -21,7 +21,7 @@ pub(crate) fn less(a: u64, b: u64) -> u64
     if b <= a { a - b } else { 0 }
 }
 
-// After how many angles k has come from `have` to `need`, where it gains at least a part with each and the cuts take the slack.
+// After how many angles k has come from `have` to `need`, where it gains at least a part with each, in units of 10^-7, and the cuts take the slack.
 fn angles(part: u64, slack: u64, need: u64, have: u64) -> u64
     requires { ⌜ (1 ≤ part) × (slack ≤ 38_450_000) × (need ≤ 2 ^ 33) × (have ≤ 2 ^ 33) ⌝ }
     ensures { λ r. ⌜ Reaches part slack need have r ⌝ }
@@ -29,7 +29,7 @@ fn angles(part: u64, slack: u64, need: u64, have: u64) -> u64
     less(need * UNIT + slack, have * UNIT) / part + 1
 }
 
-// The window round a guess, where k rises by the part 1 - share/10^7 of the way.
+// The window round a guess, where k rises by the part 1 - share/10^7 of the way. The slack is what the cuts of S, g and h can take from that.
 fn around(e: u64, share: u64, m: u64, guess: u64, k: u64) -> Window
     requires { ⌜ (e ≤ 9_000_000) × (share ≤ 9_000_001) × (m < 2 ^ 32) × (guess ≤ 2 ^ 32) × Bounded (2 ^ 33) (equation e guess) k ⌝ }
     ensures { λ r. ⌜ Around e share m guess (r .from) (r .to) ⌝ }
@@ -46,7 +46,7 @@ fn around(e: u64, share: u64, m: u64, guess: u64, k: u64) -> Window
 }
 
 // The window round a guess whose k is given. It holds whatever the guess is, and is narrow where the guess is good. In the second and the third
-// quarter k rises faster.
+// quarter k rises faster; 8 angles of these make up for the slack beyond them.
 pub(crate) fn of_guess(e: u64, m: u64, guess: u64, k: u64) -> Window
     requires { ⌜ (e ≤ 9_000_000) × (m < 2 ^ 32) × (guess ≤ 2 ^ 32) × Bounded (2 ^ 33) (equation e guess) k ⌝ }
     ensures { λ r. ⌜ Decides e m 0 (r .from) (r .to) ⌝ }

@@ -1,5 +1,4 @@
 -- `kepler::halve` meets its contract; the measure is the number of halvings left. Assumes nothing.
-use mathlib.Core.Path.{_∙_}
 use native.Mathlib.Nat.{pos-of-ne-zero}
 use native.Mathlib.Omega.{arith}
 use Rattle.kepler.proofs.Recursion.{half-width, none-left, shifted, lower-end-le, decides-at, halved}
@@ -97,7 +96,7 @@ halve-returns-2 : (t : ℕ) → halve-lts.Need-returns-2 (
 halve-returns-2 t c =
     let s = c .before .before .before in
     let h = halved _ _ _ _ _ _ _ (c .before .before .if1 .left) (s .pre .1 .1) (s .pre .1 .3) (s .pre .1 .4) (rw (shifted _ _ _ (s .pre .1 .1)) at (c .before .raised .ensures)) in
-    c .halve .ensures ∙ h .is
+    h .is _ (c .halve .ensures)
 
 pub +halve-spec : {M : Type 1} → statement M
 +halve-spec = close μ-halve λ t. halve-lts.spec (
