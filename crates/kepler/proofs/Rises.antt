@@ -1,9 +1,9 @@
 -- k from one angle to another: it rises by at least the part 1 - e/10^7 of the way, less the cuts, and in the second and the third quarter by the
 -- part 1 - e/(3·10^7). Assumes nothing.
 use mathlib.Core.Path.{_≡_}
-use Prim.Native.Nat.{ℕ, min, _+_, _*_, _-_, _/_, _^_, _≤_, _<_}
+use Prim.Native.Nat.{ℕ, min, _+_, _*_, _/_, _^_, _≤_, _<_}
 use native.Mathlib.Decide.{decLt}
-use native.Mathlib.Nat.{mul-le-mul-left, mul-le-mul-right, add-mul, one-mul, mul-assoc, mul-comm, lt-of-not-le}
+use native.Mathlib.Nat.{mul-le-mul-left, mul-le-mul-right, add-mul, one-mul, mul-assoc, lt-of-not-le}
 use native.Mathlib.Omega.{arith}
 use lib.IntN.{natAbs}
 use Rattle.integer.proofs.Ring.{ring}
@@ -14,14 +14,14 @@ use Rattle.kepler.specs.Contract.{slack}
 use Rattle.kepler.proofs.Halves.{cuts, h-le, k-upper, k-lower}
 
 -- the cuts from one magnitude to another, one after the other; q is what the way gives to the sine, and y to the angle
-sine-rises : (q g g' n n' e : ℕ) → 6 * (n' * 2 ^ 30) ≤ 6 * (n * 2 ^ 30) + q + 23 * 2 ^ 30 * e → g' * 10 ^ 7 ≤ n' → n ≤ g * 10 ^ 7 + 10 ^ 7 → 6 * (g' * 10 ^ 7 * 2 ^ 30) ≤ 6 * (g * 10 ^ 7 * 2 ^ 30) + 6 * (10 ^ 7 * 2 ^ 30) + q + 23 * 2 ^ 30 * e
-sine-rises q g g' n n' e a low high = omega arith
+sine-rises : (q x x' n n' e : ℕ) → 6 * (n' * 2 ^ 30) ≤ 6 * (n * 2 ^ 30) + q + 23 * 2 ^ 30 * e → x' * 10 ^ 7 ≤ n' → n ≤ x * 10 ^ 7 + 10 ^ 7 → 6 * (x' * 10 ^ 7 * 2 ^ 30) ≤ 6 * (x * 10 ^ 7 * 2 ^ 30) + 6 * (10 ^ 7 * 2 ^ 30) + q + 23 * 2 ^ 30 * e
+sine-rises q x x' n n' e a low high = omega arith
 
-product-rises : (q y g g' e : ℕ) → q * 683_565_276 ≤ 6 * (y * 2 ^ 60) → 6 * (g' * 10 ^ 7 * 2 ^ 30) ≤ 6 * (g * 10 ^ 7 * 2 ^ 30) + 6 * (10 ^ 7 * 2 ^ 30) + q + 23 * 2 ^ 30 * e → 6 * (g' * 683_565_276 * 10 ^ 7) ≤ 6 * (g * 683_565_276 * 10 ^ 7) + 6 * (683_565_276 * 10 ^ 7) + 6 * (y * 2 ^ 30) + 23 * 683_565_276 * e
-product-rises q y g g' e hq a = omega arith
+product-rises : (q y x x' e : ℕ) → q * 683_565_276 ≤ 6 * (y * 2 ^ 60) → 6 * (x' * 10 ^ 7 * 2 ^ 30) ≤ 6 * (x * 10 ^ 7 * 2 ^ 30) + 6 * (10 ^ 7 * 2 ^ 30) + q + 23 * 2 ^ 30 * e → 6 * (x' * 683_565_276 * 10 ^ 7) ≤ 6 * (x * 683_565_276 * 10 ^ 7) + 6 * (683_565_276 * 10 ^ 7) + 6 * (y * 2 ^ 30) + 23 * 683_565_276 * e
+product-rises q y x x' e hq a = omega arith
 
-quotient-rises : (y n n' h h' e : ℕ) → 6 * (n' * 10 ^ 7) ≤ 6 * (n * 10 ^ 7) + 6 * (683_565_276 * 10 ^ 7) + 6 * (y * 2 ^ 30) + 23 * 683_565_276 * e → h' * 2 ^ 30 ≤ n' → n ≤ h * 2 ^ 30 + 2 ^ 30 → h' * 10 ^ 7 < h * 10 ^ 7 + y + slack e
-quotient-rises y n n' h h' e a low high = omega arith
+quotient-rises : (y n n' x x' e : ℕ) → 6 * (n' * 10 ^ 7) ≤ 6 * (n * 10 ^ 7) + 6 * (683_565_276 * 10 ^ 7) + 6 * (y * 2 ^ 30) + 23 * 683_565_276 * e → x' * 2 ^ 30 ≤ n' → n ≤ x * 2 ^ 30 + 2 ^ 30 → x' * 10 ^ 7 < x * 10 ^ 7 + y + slack e
+quotient-rises y n n' x x' e a low high = omega arith
 
 h-rises : (e E E' q y : ℕ) → 6 * (e * natAbs (S E') * 2 ^ 30) ≤ 6 * (e * natAbs (S E) * 2 ^ 30) + q + 23 * 2 ^ 30 * e → q * 683_565_276 ≤ 6 * (y * 2 ^ 60) → h e E' * 10 ^ 7 < h e E * 10 ^ 7 + y + slack e
 h-rises e E E' q y a hq =
@@ -79,8 +79,8 @@ module _ (e E w y : ℕ) (he : e ≤ 9_000_000) (hE : E + w ≤ 2 ^ 32) (up : E 
       omega (arith, up u, k-upper e (E + w) u, k-upper e E (omega arith), h-le e E he, h-le e (E + w) he)
   k-from-h (no f) (yes u) =
       omega (arith, k-lower e (E + w) (omega (arith, lt-of-not-le f)) hE, k-upper e E u)
-  k-from-h (no f) (no g) =
-      let l : 2 ^ 31 ≤ E = omega (arith, lt-of-not-le g) in
+  k-from-h (no f) (no f') =
+      let l : 2 ^ 31 ≤ E = omega (arith, lt-of-not-le f') in
       omega (arith, down l, k-lower e (E + w) (omega arith) hE, k-lower e E l (omega arith))
 
 pub k-rises : (e E w : ℕ) → e ≤ 9_000_000 → E + w ≤ 2 ^ 32 → equation e E * 10 ^ 7 + w * 10 ^ 7 < equation e (E + w) * 10 ^ 7 + (e + 1) * w + slack e
@@ -90,4 +90,4 @@ k-rises e E w he hE =
 
 pub k-rises-middle : (e E w : ℕ) → e ≤ 9_000_000 → 2 ^ 30 ≤ E → E + w ≤ 3 * 2 ^ 30 → equation e E * 10 ^ 7 + w * 10 ^ 7 < equation e (E + w) * 10 ^ 7 + (e / 3 + 1) * w + slack e
 k-rises-middle e E w he l hE =
-    k-from-h e E w ((e / 3 + 1) * w) he (omega arith) (λ u. h-rising e E (E + w) w he (magnitude-second E w l (omega arith))) (λ g. h-rising e (E + w) E w he (magnitude-third E w g hE)) (decLt (E + w) (2 ^ 31)) (decLt E (2 ^ 31))
+    k-from-h e E w ((e / 3 + 1) * w) he (omega arith) (λ u. h-rising e E (E + w) w he (magnitude-second E w l (omega arith))) (λ m. h-rising e (E + w) E w he (magnitude-third E w m hE)) (decLt (E + w) (2 ^ 31)) (decLt E (2 ^ 31))
