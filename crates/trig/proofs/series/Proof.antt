@@ -27,7 +27,20 @@ horner-step-requires-7 c κs = search needs
 
 returns : tie.Need-returns
 unfolding series
-returns c = record { is = cc; small = search needs }
+returns c =
+    record {
+      is =
+          rw (
+            c .horner-step7 .ensures .is,
+            c .before .horner-step6 .ensures .is,
+            c .before .before .horner-step5 .ensures .is,
+            c .before .before .before .horner-step4 .ensures .is,
+            c .before .before .before .before .horner-step3 .ensures .is,
+            c .before .before .before .before .before .horner-step2 .ensures .is,
+            c .before .before .before .before .before .before .horner-step .ensures .is,
+          );
+      small = search needs;
+    }
 
 pub series-spec : {M : Type 1} → statement M
 series-spec =
