@@ -1,9 +1,11 @@
-//! Document 01 in plain Rust: what the proved library is compared with.
+//! Document 01, and the elements file of docs/FORMATS.md, in plain Rust: what the proved library is
+//! compared with.
 //!
-//! Written from the document alone. Each module has one of its subjects; quotients are cut toward
+//! Written from these alone. Each module has one of its subjects; quotients are cut toward
 //! zero unless the document says "down", as `/` and `div_euclid` do.
 
 pub mod eclipse;
+pub mod elements_file;
 pub mod file;
 pub mod kepler;
 pub mod label;
