@@ -3,6 +3,7 @@
 
 use yurdelmiz::ffi;
 
+use crate::elements_files;
 use crate::inputs;
 use crate::numbers::library_elements;
 use crate::random::Random;
@@ -112,6 +113,12 @@ pub fn lent(random: &mut Random, report: &mut Report) {
     check_answer(random, report, "read", ffi::READ_BYTES, true, |answer, length| unsafe {
         // The place of a file without labels is 0, so the result is the status.
         ffi::yurdelmiz_read(file.as_ptr(), file.len(), file.len(), answer, length) as u32
+    });
+
+    let text = elements_files::text(random);
+    check_answer(random, report, "elements", ffi::ELEMENTS_BYTES, true, |answer, length| unsafe {
+        // The lower half of the result is the status.
+        ffi::yurdelmiz_elements(text.as_ptr(), text.len(), answer, length) as u32
     });
 
     label_with_bad_elements(random, report);

@@ -2,11 +2,13 @@
 //!
 //!     differential [--seed N] [--count N]
 //!
-//! Each cheap subject gets `count` comparisons (1,000,000 where none is given), labelling and
-//! reading a hundredth of it in days and files. The same seed gives the same inputs.
+//! Each cheap subject gets `count` comparisons (1,000,000 where none is given), elements files a
+//! tenth of it, labelling and reading a hundredth in days and files. The same seed gives the same
+//! inputs.
 
 mod buffers;
 mod days;
+mod elements_files;
 mod files;
 mod inputs;
 mod numbers;
@@ -49,7 +51,7 @@ fn main() -> ExitCode {
         return ExitCode::from(2);
     };
     println!("seed {seed}");
-    let subjects: [(&str, u64, Subject); 8] = [
+    let subjects: [(&str, u64, Subject); 9] = [
         ("sine", count, numbers::sine),
         ("kepler", count, numbers::kepler),
         ("position", count, numbers::position),
@@ -58,6 +60,7 @@ fn main() -> ExitCode {
         ("label", count / 100, days::label),
         ("read", count / 100, files::read),
         ("buffers", count / 100, buffers::lent),
+        ("elements", count / 10, elements_files::elements),
     ];
     let mut differences = 0;
     for (number, (name, rounds, compare)) in subjects.into_iter().enumerate() {

@@ -4,8 +4,8 @@ use std::collections::BTreeMap;
 use std::fmt::{self, Debug, Formatter};
 use std::time::Duration;
 
-/// What a call gives, or a refusal's number and place.
-pub type Outcome<T> = Result<T, (u32, u32)>;
+/// What a call gives, or the number and place of a refusal or fault.
+pub type Outcome<T, P> = Result<T, (u32, P)>;
 
 /// Bytes shown as hex digits, the first of them where there are many.
 pub struct Hex<'a>(pub &'a [u8]);
@@ -24,13 +24,25 @@ impl Debug for Hex<'_> {
     }
 }
 
+/// A text with its bytes outside ASCII escaped, the first of it where it is long.
+pub struct Text<'a>(pub &'a [u8]);
+
+impl Debug for Text<'_> {
+    fn fmt(&self, f: &mut Formatter) -> fmt::Result {
+        const SHOWN_BYTES: usize = 1_000;
+        let shown = self.0.len().min(SHOWN_BYTES);
+        let dots = if shown < self.0.len() { ".." } else { "" };
+        write!(f, "{} bytes \"{}\"{dots}", self.0.len(), self.0[..shown].escape_ascii())
+    }
+}
+
 /// The most differences of a subject that are printed.
 const SHOWN: u64 = 5;
 
 pub struct Report {
     subject: &'static str,
     comparisons: u64,
-    /// How often each refusal was given, by its number.
+    /// How often each refusal, or fault of an elements file, was given, by its number.
     refusals: BTreeMap<u32, u64>,
     differences: u64,
 }
@@ -41,14 +53,14 @@ impl Report {
     }
 
     /// Compares two outcomes of one input.
-    pub fn outcomes<T: PartialEq + Debug>(
+    pub fn outcomes<T: PartialEq + Debug, P: PartialEq + Debug>(
         &mut self,
         input: &dyn Debug,
-        library: Outcome<T>,
-        reference: Outcome<T>,
+        library: Outcome<T, P>,
+        reference: Outcome<T, P>,
     ) {
-        if let Err((number, _)) = reference {
-            *self.refusals.entry(number).or_default() += 1;
+        if let Err((number, _)) = &reference {
+            *self.refusals.entry(*number).or_default() += 1;
         }
         self.equal(input, "", library, reference);
     }
@@ -106,7 +118,8 @@ impl Report {
         let seconds = took.as_secs_f64();
         println!("{subject}: {comparisons} comparisons, {differences} differences, {seconds:.1} s");
         for (number, times) in refusals {
-            println!("  refusal {number}: {times}");
+            let kind = if *number > 100 { "fault" } else { "refusal" };
+            println!("  {kind} {number}: {times}");
         }
     }
 }
