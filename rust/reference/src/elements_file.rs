@@ -1,7 +1,7 @@
 //! Elements files, as docs/FORMATS.md describes them: read line by line.
 //!
-//! The first fault of a line is the one that stands furthest ahead in it. A value is judged for its
-//! size as a whole, after its bytes; a line that the end of the file cuts short is `Unended` where
+//! The first fault of a line is the one that stands furthest ahead in it. A value is too large by its
+//! digits, whatever stands behind them; a line that the end of the file cuts short is `Unended` where
 //! nothing in it is wrong so far.
 
 use std::ops::RangeInclusive;
@@ -134,22 +134,29 @@ fn parse_line(line: &[u8], due: usize) -> Result<Option<i64>, Fault> {
         });
     };
 
+    let value = parse_value(value, range)?;
+    ended?;
+    value.map(Some).ok_or(Fault::NotWhole)
+}
+
+/// A value within its range, or none where no digit stands.
+fn parse_value(value: &[u8], range: &RangeInclusive<i64>) -> Result<Option<i64>, Fault> {
     let signed = *range.start() < 0;
-    let digits = value.strip_prefix(b"-").filter(|_| signed).unwrap_or(value);
-    match digits.iter().find(|byte| !byte.is_ascii_digit()) {
-        Some(b'.') => return Err(Fault::DecimalPoint),
-        Some(&byte) => return Err(wrong_byte(byte, Fault::NotWhole)),
-        None => {}
+    let minus = usize::from(signed && value.starts_with(b"-"));
+    let digits = value[minus..].iter().take_while(|byte| byte.is_ascii_digit()).count();
+    let (number, rest) = value.split_at(minus + digits);
+    let number = match digits {
+        0 => None,
+        _ => {
+            let number = String::from_utf8_lossy(number).parse().ok();
+            Some(number.filter(|number| range.contains(number)).ok_or(Fault::TooLarge)?)
+        }
+    };
+    match rest.first() {
+        Some(b'.') => Err(Fault::DecimalPoint),
+        Some(&byte) => Err(wrong_byte(byte, Fault::NotWhole)),
+        None => Ok(number),
     }
-    if digits.is_empty() {
-        return Err(ended.err().unwrap_or(Fault::NotWhole));
-    }
-    let value = String::from_utf8_lossy(value)
-        .parse()
-        .ok()
-        .filter(|value| range.contains(value))
-        .ok_or(Fault::TooLarge)?;
-    ended.and(Ok(Some(value)))
 }
 
 /// The fault of a byte that may not stand where it does.
@@ -237,6 +244,9 @@ epoch -138406500
             assert_eq!(fault("26100000", value), (Fault::NotWhole, 2, 1), "{value}");
         }
         assert_eq!(fault("-1724", "-"), (Fault::NotWhole, 8, 7));
+        for value in ["4294967296.5", "4294967296x", "4294967296\r"] {
+            assert_eq!(fault("26100000", value), (Fault::TooLarge, 2, 1), "{value}");
+        }
         assert_eq!(fault("2834\n", "2834\r\n"), (Fault::ControlByte, 9, 8));
         assert_eq!(fault("500\n", "500\nepoch 0\n"), (Fault::Extra, 12, 11));
     }
