@@ -103,11 +103,11 @@ fn lines(random: &mut Random) -> Vec<Vec<u8>> {
     lines
 }
 
-/// An element's line with something wrong, at times in several ways.
-fn wrong_line(random: &mut Random) -> Vec<u8> {
-    let (name, range) = &FIELDS[random.index(FIELDS.len())];
+/// The line of the element of this number with something wrong, at times in several ways.
+fn wrong_line(random: &mut Random, element: usize) -> Vec<u8> {
+    let (name, range) = &FIELDS[element];
     let mut name = name.to_string();
-    match random.below(10) {
+    match random.below(20) {
         0 => name.truncate(random.index(name.len())),
         1 => name.push(random.pick(&['s', '_', '1', ' ', ':', '=', '\t'])),
         2 => name.insert(0, random.pick(&[' ', '\t', '\u{feff}', '-', 'x'])),
@@ -127,16 +127,10 @@ fn wrong_line(random: &mut Random) -> Vec<u8> {
     format!("{name}{gap}{value}{end}").into_bytes()
 }
 
-/// Which line is that of the element, or else any.
-fn line_of(random: &mut Random, lines: &[Vec<u8>], name: &[u8]) -> usize {
-    let found = lines.iter().position(|line| line.starts_with(name));
-    found.unwrap_or_else(|| random.index(lines.len()))
-}
-
 /// Damages one line, or the order of the lines.
 fn damage_lines(random: &mut Random, lines: &mut Vec<Vec<u8>>) {
     let (one, other) = (random.index(lines.len()), random.index(lines.len()));
-    match random.below(12) {
+    match random.below(18) {
         0 => lines.swap(one, other),
         1 if lines.len() > 1 => drop(lines.remove(one)),
         2 => lines.insert(other, lines[one].clone()),
@@ -144,7 +138,7 @@ fn damage_lines(random: &mut Random, lines: &mut Vec<Vec<u8>>) {
             let line = random.pick(&[&b" "[..], b" # none", b"\t", b"\r", b"x", b"\xef\xbb\xbf#"]);
             lines.insert(other, line.to_vec());
         }
-        4 => lines.push(wrong_line(random)),
+        4 => lines.push(wrong_line(random, FIELDS.len() - 1)),
         5 => lines.iter_mut().for_each(|line| line.push(b'\r')),
         6 => lines.truncate(one + 1),
         7 => {
@@ -153,10 +147,10 @@ fn damage_lines(random: &mut Random, lines: &mut Vec<Vec<u8>>) {
         }
         8 => lines[one].push(random.pick(BYTES)),
         _ => {
-            let wrong = wrong_line(random);
-            let name: Vec<u8> = wrong.iter().copied().take_while(|&byte| byte != b' ').collect();
-            let at = line_of(random, lines, &name);
-            lines[at] = wrong;
+            let element = random.index(FIELDS.len());
+            let begin = format!("{} ", FIELDS[element].0);
+            let at = lines.iter().position(|line| line.starts_with(begin.as_bytes()));
+            lines[at.unwrap_or(one)] = wrong_line(random, element);
         }
     }
 }
