@@ -44,8 +44,7 @@ enum {
     YURDELMIZ_EPOCH_REVOLUTION = 7,
     /* Epoch or time outside -2,834,956,800 to 3,476,476,799, or over 31,622,400 s apart. */
     YURDELMIZ_TIME = 8,
-    /* The halving did not end with the mean anomaly between its two neighbours. */
-    YURDELMIZ_NOT_CONVERGED = 9,
+    /* 9 is not used, and not to be used again. */
     /* Telemetry length no multiple of 16, or over 1,024 records. */
     YURDELMIZ_TELEMETRY_LENGTH = 10,
     /* Output shorter than 24 bytes a record plus 16. */
@@ -105,7 +104,7 @@ enum {
 int64_t yurdelmiz_sine(uint32_t angle);
 int64_t yurdelmiz_cosine(uint32_t angle);
 
-/* Solves Kepler's equation for a mean anomaly. Refusals 1, 9.
+/* Solves Kepler's equation for a mean anomaly. Refusal 1.
  *
  *   answer, 8 bytes:
  *     0  u32  eccentric anomaly E
@@ -127,7 +126,7 @@ uint32_t yurdelmiz_kepler(uint32_t eccentricity, uint32_t mean_anomaly,
  */
 uint32_t yurdelmiz_sun(int64_t time, uint8_t *answer, size_t answer_len);
 
-/* The satellite at a time. Refusals 1 to 7 for the elements, 8 for the epoch, then 8, 9.
+/* The satellite at a time. Refusals 1 to 7 for the elements, 8 for the epoch, then 8.
  *
  *   elements, 48 bytes:
  *     0  i64  epoch

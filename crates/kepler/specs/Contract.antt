@@ -3,11 +3,11 @@ use Prim.Native.Nat.{ℕ, max, _+_, _*_, _-_, _/_, _^_, _≤_, _<_}
 use mathlib.Core.Path.{_≡_}
 use mathlib.Core.Bool.{cond}
 use lib.Dec.{leb}
-use Rattle.refusal.specs.Numbers.{numberOf}
 use Rattle.kepler.specs.declared.Anomaly.{Anomaly}
 use Rattle.kepler.specs.declared.Solution.{Solution}
 use Rattle.kepler.specs.declared.Solution.the-variants.{Solved, Refused}
 use Rattle.kepler.specs.Kepler.{equation, anomaly, halvings}
+use Rattle.kepler.specs.Bracket.{Bracketed}
 use Rattle.kepler.specs.Demand.{Demand3}
 use Rattle.kepler.specs.Solution.{solution}
 
@@ -54,11 +54,6 @@ pub record DecidesAt (e M from to middle : ℕ) : Type 0 where
 abbrev pub raisedTo : ℕ → ℕ → ℕ → ℕ → ℕ
 raisedTo e M from middle = cond (leb (equation e middle) M) (max from middle) from
 
--- what the halving owes
-pub record Bracketed (e M E : ℕ) : Type 0 where
-  pub from : equation e E ≤ M
-  pub to : M < equation e (E + 1)
-
 -- what an eccentric anomaly owes
 pub record AnomalyAt (e M : ℕ) (r : Anomaly) : Type 0 where
   pub angle-is : r .angle ≡ anomaly e M
@@ -67,10 +62,10 @@ pub record AnomalyAt (e M : ℕ) (r : Anomaly) : Type 0 where
   pub bracket : Bracketed e M (r .angle)
   pub demand3 : Demand3 e M (r .angle)
 
--- by the cases of the answer: an anomaly is given whole, and a refusal has number 1, with e above the limit; 9 is never given
+-- by the cases of the answer
 abbrev pub SolutionOwes : ℕ → ℕ → Solution → Type 0
 SolutionOwes e M (Solved r) = AnomalyAt e M r
-SolutionOwes e M (Refused refusal) = (numberOf refusal ≡ 1) × (9_000_000 < e)
+SolutionOwes e M (Refused refusal) = 9_000_000 < e
 
 -- what the solver owes
 pub record SolvedBy (e M : ℕ) (r : Solution) : Type 0 where

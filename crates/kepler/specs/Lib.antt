@@ -1,4 +1,5 @@
 pub mod Kepler
+pub mod Bracket
 pub mod Demand
 pub mod Solution
 pub mod Contract

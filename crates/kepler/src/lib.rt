@@ -75,8 +75,7 @@ fn halve(e: u64, m: u64, from: u64, to: u64, width: u64, left: u64) -> u64
     halve(e, m, next, to, half, left - 1)
 }
 
-// The eccentric anomaly of an eccentricity that the caller has found to be at most 9,000,000: without that, k may be below 0. Whether the
-// bracket holds is not tested, since it always does.
+// The eccentric anomaly of an eccentricity that the caller has found to be at most 9,000,000: without that, k may be below 0.
 pub fn eccentric_anomaly(eccentricity: u32, mean_anomaly: u32) -> Anomaly
     requires { ⌜ eccentricity ≤ 9_000_000 ⌝ }
     ensures { λ r. ⌜ AnomalyAt eccentricity «mean_anomaly» r ⌝ }
@@ -109,17 +108,5 @@ pub fn solve(eccentricity: u32, mean_anomaly: u32) -> Solution
     if 9_000_000 < eccentricity {
         return Solution::Refused(Refusal::Eccentricity);
     }
-    let anomaly = eccentric_anomaly(eccentricity, mean_anomaly);
-    let e = eccentricity as u64;
-    let m = mean_anomaly as u64;
-    let angle = anomaly.angle as u64;
-    let lower = equation(e, angle);
-    if m < lower {
-        return Solution::Refused(Refusal::NotConverged);
-    }
-    let upper = equation(e, angle + 1);
-    if upper <= m {
-        return Solution::Refused(Refusal::NotConverged);
-    }
-    Solution::Solved(anomaly)
+    Solution::Solved(eccentric_anomaly(eccentricity, mean_anomaly))
 }

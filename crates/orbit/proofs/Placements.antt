@@ -6,12 +6,10 @@ use lib.IntN.{ℤ}
 use Rattle.trig.specs.Sine.{C}
 use Rattle.trig.proofs.Quarters.{S-within, C-within}
 use Rattle.refusal.specs.declared.Refusal.{Refusal}
-use Rattle.kepler.specs.Demand.{Demand3}
 use Rattle.kepler.specs.Contract.{AnomalyAt}
-use Rattle.kepler.specs.Solution.{solution}
 use Rattle.kepler.specs.declared.Anomaly.{Anomaly}
-use Rattle.kepler.specs.declared.Solution.the-variants as solved
-use Rattle.kepler.proofs.Answer.{anomaly-demand3, never-refused-9}
+use Rattle.kepler.proofs.Answer.{anomaly-demand3}
+use Rattle.kepler.proofs.Bracket.{always-bracketed}
 use Rattle.position.specs.declared.Position.{Position}
 use Rattle.position.proofs.Bounds.{celestial-box}
 use Rattle.orbit.specs.declared.State.{State}
@@ -30,12 +28,12 @@ use Rattle.orbit.proofs.MeanAnomaly.{mean-anomaly-below}
 
 module _ (el : Elements) (t : ℤ) where
   -- a state by its fields
-  pub state-is : (r : Anomaly) {n R : ℤ} {M Ω : ℕ} {p : Position} → n ≡ revolution el t → M ≡ meanAnomaly el t
-      → p ≡ celestialAt el t (r .angle) → R ≡ radius (el .«semi_major_axis») (el .eccentricity) (C (r .angle)) → Ω ≡ nodeAt el t
-      → _≡_ {A = State} (record { revolution = n; «mean_anomaly» = M; anomaly = r; position = p; radius = R; node = Ω }) (stateOf el t r)
+  pub state-is : {r : Anomaly} {n R : ℤ} {M Ω : ℕ} {p : Position} → r ≡ anomalyAt el t → n ≡ revolution el t → M ≡ meanAnomaly el t
+      → p ≡ celestialAt el t (anomalyAt el t .angle) → R ≡ radius (el .«semi_major_axis») (el .eccentricity) (C (anomalyAt el t .angle)) → Ω ≡ nodeAt el t
+      → _≡_ {A = State} (record { revolution = n; «mean_anomaly» = M; anomaly = r; position = p; radius = R; node = Ω }) (stateOf el t)
   unfolding stateOf
-  state-is r a b c d e =
-      λ i. record { revolution = a i; «mean_anomaly» = b i; anomaly = r; position = c i; radius = d i; node = e i }
+  state-is k a b c d e =
+      λ i. record { revolution = a i; «mean_anomaly» = b i; anomaly = k i; position = c i; radius = d i; node = e i }
 
   -- the definition's eccentric anomaly
   pub anomaly-is : (r : Anomaly) → AnomalyAt (el .eccentricity) (meanAnomaly el t) r → r ≡ anomalyAt el t
@@ -46,20 +44,26 @@ module _ (el : Elements) (t : ℤ) where
   unfolding placement
   placement-refused r e = rw (e, placement)
 
-  pub placement-placed : (r : Anomaly) → checkedAt el t ≡ verdict.Passed → solution (el .eccentricity) (meanAnomaly el t) ≡ solved.Solved r → Placed (stateOf el t r) ≡ placement el t
+  pub placement-placed : checkedAt el t ≡ verdict.Passed → Placed (stateOf el t) ≡ placement el t
   unfolding placement
-  placement-placed r e k = rw (e, k, placement)
+  placement-placed e = rw (e, placement)
 
   -- ---- what a state owes
-  pub state-owes : (r : Anomaly) → AcceptedAt el t → Demand3 (el .eccentricity) (meanAnomaly el t) (r .angle) → StateOwes el t (stateOf el t r)
-  unfolding stateOf celestialAt inPlane
-  state-owes r a d =
-      let el = a .elements in
+  pub state-owes : el .«mean_anomaly» < 2 ^ 32 → AcceptedAt el t → StateOwes el t (stateOf el t)
+  unfolding stateOf anomalyAt celestialAt inPlane
+  state-owes held a =
+      let el' = a .elements in
+      let below = mean-anomaly-below el t held in
       record {
-        demand3 = d;
-        radius-between = radius-between _ _ _ (el .eccentricity-le) (C-within (r .angle));
-        box = celestial-box _ _ _ (plane-box _ _ _ _ _ (el .axis-le) (el .eccentricity-le) (minor-le _) (C-within _) (S-within _));
+        bracket = always-bracketed _ _ (el' .eccentricity-le) below;
+        demand3 = anomaly-demand3 _ _ (el' .eccentricity-le) below;
+        radius-between = radius-between _ _ _ (el' .eccentricity-le) (C-within _);
+        box = celestial-box _ _ _ (plane-box _ _ _ _ _ (el' .axis-le) (el' .eccentricity-le) (minor-le _) (C-within _) (S-within _));
       }
+
+  pub state-at : {s : State} → el .«mean_anomaly» < 2 ^ 32 → checkedAt el t ≡ verdict.Passed → s ≡ stateOf el t → StateAt el t s
+  state-at held passed is =
+      record { is = is; owes = subst (StateOwes el t) (sym is) (state-owes held (accepted-at el t passed)) }
 
   pub placed-passed : {s : State} → placement el t ≡ Placed s → checkedAt el t ≡ verdict.Passed
   placed-passed given = by (checkedAt el t) refl
@@ -70,14 +74,10 @@ module _ (el : Elements) (t : ℤ) where
           let p = placement-refused r e ∙ given in
           let z : _≡_ {A = ℕ} 0 1 = cc in absurd (omega arith)
 
-  -- a state that was given: what it is, demand 3, the radius between perigee and apogee, and the bounds of the position
+  -- a state that was given: what it is, k(E) ≤ M < k(E + 1), demand 3, the radius between perigee and apogee, and the bounds of the position
   pub placed-state : el .«mean_anomaly» < 2 ^ 32 → (s : State) → placement el t ≡ Placed s → StateAt el t s
-  unfolding anomalyAt
   placed-state held s given =
       let passed = placed-passed given in
-      let a = accepted-at el t passed in
-      let e = a .elements .eccentricity-le in
-      let below = mean-anomaly-below el t held in
-      let q = placement-placed (anomalyAt el t) passed (never-refused-9 _ _ e below) ∙ given in
-      let same : stateOf el t (anomalyAt el t) ≡ s = cc in
-      record { is = sym same; owes = subst (StateOwes el t) same (state-owes (anomalyAt el t) a (anomaly-demand3 _ _ e below)) }
+      let q = placement-placed passed ∙ given in
+      let same : s ≡ stateOf el t = cc in
+      state-at held passed same

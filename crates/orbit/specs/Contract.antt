@@ -7,9 +7,8 @@ use Rattle.integer.specs.Contract.{FloorDivided}
 use Rattle.integer.specs.declared.FloorQuotient.{FloorQuotient}
 use Rattle.trig.specs.Contract.{SinesAt}
 use Rattle.trig.specs.declared.Sines.{Sines}
+use Rattle.kepler.specs.Bracket.{Bracketed}
 use Rattle.kepler.specs.Demand.{Demand3}
-use Rattle.kepler.specs.Contract.{AnomalyAt}
-use Rattle.kepler.specs.declared.Anomaly.{Anomaly}
 use Rattle.position.specs.Box.{PlaneBox, CelestialBox}
 use Rattle.position.specs.declared.Position.{Position}
 use Rattle.orbit.specs.declared.Plane.{Plane}
@@ -20,7 +19,7 @@ use Rattle.orbit.specs.declared.elements.Elements.{Elements}
 use Rattle.orbit.specs.declared.elements.Verdict.the-variants as verdict
 use Rattle.orbit.specs.declared.turns.Phase.{Phase}
 use Rattle.orbit.specs.Ellipse.{minorAxis, Between}
-use Rattle.orbit.specs.Placement.{planeOf, nodeAt, stateOf, anomalyAt, placement}
+use Rattle.orbit.specs.Placement.{planeOf, stateOf, placement}
 use Rattle.orbit.specs.Time.{checkedAt}
 use Rattle.orbit.specs.Turns.{elapsedOf, meanAnomaly, revolution}
 
@@ -56,23 +55,16 @@ pub record PlaneFor (el : Elements) (r : Plane) : Type 0 where
   pub minor-is : r .«minor_axis» ≡ minorAxis (el .eccentricity)
   pub inclination-at : SinesAt (el .inclination) (r .inclination)
 
--- what a state is made of: elements and a time that passed, the plane, the node, the mean anomaly and revolution, the eccentric anomaly
-pub record Parts (el : Elements) (t : ℤ) (plane : Plane) (node : Sines) (phase : Phase) (r : Anomaly) : Type 0 where
-  pub passed : checkedAt el t ≡ verdict.Passed
-  pub plane-for : PlaneFor el plane
-  pub node-at : SinesAt (nodeAt el t) node
-  pub phase-at : PhaseAt el t phase
-  pub anomaly-at : AnomalyAt (el .eccentricity) (meanAnomaly el t) r
-
--- demand 3 for position: M is the mean anomaly of the turns, E the eccentric anomaly that the radius comes from; and the bounds of
--- the celestial position
+-- k(E) ≤ M < k(E + 1) and demand 3 for position: M is the mean anomaly of the turns, E the eccentric anomaly that the radius comes from; and
+-- the bounds of the celestial position
 pub record StateOwes (el : Elements) (t : ℤ) (s : State) : Type 0 where
+  pub bracket : Bracketed (el .eccentricity) (meanAnomaly el t) (s .anomaly .angle)
   pub demand3 : Demand3 (el .eccentricity) (meanAnomaly el t) (s .anomaly .angle)
   pub radius-between : Between (el .«semi_major_axis») (el .eccentricity) (s .radius)
   pub box : CelestialBox (s .position)
 
 pub record StateAt (el : Elements) (t : ℤ) (s : State) : Type 0 where
-  pub is : s ≡ stateOf el t (anomalyAt el t)
+  pub is : s ≡ stateOf el t
   pub owes : StateOwes el t s
 
 -- by the cases of the answer: a state is given whole, and the checks give every refusal

@@ -3,9 +3,7 @@ use Prim.Native.Nat.{ℕ}
 use lib.IntN.{ℤ, pos}
 use Rattle.trig.specs.Sine.{S, C}
 use Rattle.kepler.specs.Kepler.{anomaly, halvings}
-use Rattle.kepler.specs.Solution.{solution}
 use Rattle.kepler.specs.declared.Anomaly.{Anomaly}
-use Rattle.kepler.specs.declared.Solution.the-variants as solved
 use Rattle.position.specs.Turn.{celestialOf}
 use Rattle.position.specs.declared.Position.{Position}
 use Rattle.orbit.specs.declared.State.{State}
@@ -35,30 +33,28 @@ perigeeAt el t = drifted (el .«argument_of_perigee») (el .«perigee_rate») (e
 unfoldable pub celestialAt : Elements → ℤ → ℕ → Position
 celestialAt el t E = celestialOf (inPlane el E) (perigeeAt el t) (el .inclination) (nodeAt el t)
 
--- the state at a time, with the eccentric anomaly that the solver answers
-unfoldable pub stateOf : Elements → ℤ → Anomaly → State
-stateOf el t r =
-    record {
-      revolution = revolution el t;
-      «mean_anomaly» = meanAnomaly el t;
-      anomaly = r;
-      position = celestialAt el t (r .angle);
-      radius = radius (el .«semi_major_axis») (el .eccentricity) (C (r .angle));
-      node = nodeAt el t;
-    }
-
 -- the eccentric anomaly at a time
 unfoldable pub anomalyAt : Elements → ℤ → Anomaly
 anomalyAt el t =
     record { angle = anomaly (el .eccentricity) (meanAnomaly el t); halvings = halvings (el .eccentricity) }
 
--- position: the elements, then 8, then 9
+-- the state at a time
+unfoldable pub stateOf : Elements → ℤ → State
+stateOf el t =
+    let E = anomalyAt el t .angle in
+    record {
+      revolution = revolution el t;
+      «mean_anomaly» = meanAnomaly el t;
+      anomaly = anomalyAt el t;
+      position = celestialAt el t E;
+      radius = radius (el .«semi_major_axis») (el .eccentricity) (C E);
+      node = nodeAt el t;
+    }
+
+-- position: the elements, then 8
 unfoldable pub placement : Elements → ℤ → Placement
 placement el t =
     elim (checkedAt el t) [
       | verdict.Refused refusal ↦ Refused refusal
-      | verdict.Passed ↦ elim (solution (el .eccentricity) (meanAnomaly el t)) [
-        | solved.Refused refusal ↦ Refused refusal
-        | solved.Solved r ↦ Placed (stateOf el t r)
-      ]
+      | verdict.Passed ↦ Placed (stateOf el t)
     ]

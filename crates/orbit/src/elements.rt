@@ -106,7 +106,7 @@ pub fn time_refused(epoch: i64, time: i64) -> bool
 }
 
 // Refusals 1 to 7 of the elements, then 8 for the epoch and the time.
-pub fn check_at(elements: Elements, time: i64) -> Verdict
+pub(crate) fn check_at(elements: Elements, time: i64) -> Verdict
     ensures { λ r. ⌜ r ≡ checkedAt elements time ⌝ }
 {
     check(elements).refuse_if(time_refused(elements.epoch, time), Refusal::Time)

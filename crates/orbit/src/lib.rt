@@ -6,18 +6,16 @@ mod turns;
 use elements::Elements;
 use elements::Verdict;
 use kepler::Anomaly;
-use kepler::Solution;
 use position::Position;
 use refusal::Refusal;
 use trig::Sines;
-use turns::Phase;
 ghost use mathlib.Core.Path.{_≡_};
 ghost use Prim.Native.Nat.{_≤_};
 ghost use Rattle.trig.specs.Contract.{SinesAt};
 ghost use Rattle.orbit.specs.declared.elements.Verdict.the-variants.{Passed};
-ghost use Rattle.orbit.specs.Placement.{nodeAt, stateOf};
+ghost use Rattle.orbit.specs.Placement.{nodeAt};
 ghost use Rattle.orbit.specs.Time.{checkedAt};
-ghost use Rattle.orbit.specs.Contract.{PlaneFor, Shape, InPlane, Parts, StateAt, PlacedAt};
+ghost use Rattle.orbit.specs.Contract.{PlaneFor, Shape, InPlane, StateAt, PlacedAt};
 
 // Where a satellite is at a time: the revolution, the mean anomaly, the eccentric anomaly with its
 // halvings, the celestial position and the radius in metres, and the node as drifted.
@@ -74,25 +72,22 @@ fn in_plane(a: u32, e: u32, minor_axis: u32, cosine: i64, sine: i64) -> Position
     }
 }
 
-fn place(
-    elements: Elements,
-    time: i64,
-    plane: Plane,
-    node: Sines,
-    phase: Phase,
-    anomaly: Anomaly,
-) -> State
-    requires { ⌜ Parts elements time plane node phase anomaly ⌝ }
-    ensures { λ r. ⌜ r ≡ stateOf elements time anomaly ⌝ }
+// The state at a time that passed the checks: the plane is computed once for all times, and the node
+// once for the time.
+pub fn state_at(elements: Elements, plane: Plane, node: Sines, time: i64) -> State
+    requires { ⌜ (checkedAt elements time ≡ Passed) × PlaneFor elements plane × SinesAt (nodeAt elements time) node ⌝ }
+    ensures { λ r. ⌜ StateAt elements time r ⌝ }
 {
     let a = elements.semi_major_axis;
     let e = elements.eccentricity;
+    let phase = turns::phase_at(elements, time);
     let perigee = turns::drift_at(
         elements,
         time,
         elements.argument_of_perigee,
         elements.perigee_rate,
     );
+    let anomaly = kepler::eccentric_anomaly(e, phase.mean_anomaly);
     let sines = Sines::of(anomaly.angle);
     let cosine = sines.cosine;
     let in_plane = in_plane(a, e, plane.minor_axis, cosine, sines.sine);
@@ -106,17 +101,6 @@ fn place(
     }
 }
 
-// The state at a time that passed the checks, as labelling asks for it: the plane is computed once for
-// all times and the node once for the time, and refusal 9 is not tested, since it is never given.
-pub fn state_at(elements: Elements, plane: Plane, node: Sines, time: i64) -> State
-    requires { ⌜ (checkedAt elements time ≡ Passed) × PlaneFor elements plane × SinesAt (nodeAt elements time) node ⌝ }
-    ensures { λ r. ⌜ StateAt elements time r ⌝ }
-{
-    let phase = turns::phase_at(elements, time);
-    let anomaly = kepler::eccentric_anomaly(elements.eccentricity, phase.mean_anomaly);
-    place(elements, time, plane, node, phase, anomaly)
-}
-
 // The position of a satellite with any elements at any time, or the refusal.
 pub fn position(elements: Elements, time: i64) -> Placement
     ensures { λ r. ⌜ PlacedAt elements time r ⌝ }
@@ -125,17 +109,9 @@ pub fn position(elements: Elements, time: i64) -> Placement
     match verdict {
         Verdict::Refused(refusal) => Placement::Refused(refusal),
         Verdict::Passed => {
-            let phase = turns::phase_at(elements, time);
-            let solution = kepler::solve(elements.eccentricity, phase.mean_anomaly);
-            match solution {
-                Solution::Refused(refusal) => Placement::Refused(refusal),
-                Solution::Solved(anomaly) => {
-                    let plane = Plane::of(elements);
-                    let node = node_at(elements, time);
-                    let state = place(elements, time, plane, node, phase, anomaly);
-                    Placement::Placed(state)
-                }
-            }
+            let plane = Plane::of(elements);
+            let node = node_at(elements, time);
+            Placement::Placed(state_at(elements, plane, node, time))
         }
     }
 }

@@ -1,7 +1,7 @@
 -- The number of each refusal: document 01, "When the build says no". Assumes nothing.
 use Prim.Native.Nat.{ℕ}
 use Rattle.refusal.specs.declared.Refusal.{Refusal}
-use Rattle.refusal.specs.declared.Refusal.the-variants.{Eccentricity, SemiMajorAxis, PerigeeDistance, Inclination, MeanMotion, DriftRate, EpochRevolution, Time, NotConverged, TelemetryLength, OutputLength, Trailer, Labels, Component}
+use Rattle.refusal.specs.declared.Refusal.the-variants.{Eccentricity, SemiMajorAxis, PerigeeDistance, Inclination, MeanMotion, DriftRate, EpochRevolution, Time, TelemetryLength, OutputLength, Trailer, Labels, Component}
 
 abbrev pub numberOf : Refusal → ℕ
 -- e above 9,000,000
@@ -20,8 +20,7 @@ numberOf DriftRate = 6
 numberOf EpochRevolution = 7
 -- epoch or time out of range, or the two too far apart
 numberOf Time = 8
--- after the halvings k(E) ≤ M < k(E + 1) does not hold
-numberOf NotConverged = 9
+-- 9 is not used, and not to be used again (law `never-9`)
 -- telemetry length no multiple of 16, or over 1,024 records
 numberOf TelemetryLength = 10
 -- output shorter than 24 a record plus 16

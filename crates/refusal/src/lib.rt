@@ -11,7 +11,6 @@ pub enum Refusal {
     DriftRate,
     EpochRevolution,
     Time,
-    NotConverged,
     TelemetryLength,
     OutputLength,
     Trailer,
@@ -20,7 +19,7 @@ pub enum Refusal {
 }
 
 impl Refusal {
-    // The number of a refusal in document 01's table.
+    // The number of a refusal in document 01's table. 9 is not used (law `never-9`).
     pub fn number(self) -> u32
         ensures { λ r. ⌜ r ≡ numberOf self ⌝ }
     {
@@ -33,7 +32,6 @@ impl Refusal {
             Refusal::DriftRate => 6,
             Refusal::EpochRevolution => 7,
             Refusal::Time => 8,
-            Refusal::NotConverged => 9,
             Refusal::TelemetryLength => 10,
             Refusal::OutputLength => 11,
             Refusal::Trailer => 12,

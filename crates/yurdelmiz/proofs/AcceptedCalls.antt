@@ -8,9 +8,7 @@ use borrow.Author.Tests.{eq-eqb, leb-true, leb-false}
 use lib.Dec.{lit≤, leb}
 use lib.IntN.{ℤ}
 use lib.ListN.{length, getD}
-use Rattle.refusal.specs.Numbers.{numberOf}
-use Rattle.refusal.specs.declared.Refusal.{Refusal}
-use Rattle.refusal.specs.declared.Refusal.the-variants.{Eccentricity, SemiMajorAxis, PerigeeDistance, Inclination, MeanMotion, DriftRate, EpochRevolution, Time, NotConverged, TelemetryLength, OutputLength, Trailer, Labels, Component}
+use Rattle.refusal.proofs.Numbers.{never-0}
 use Rattle.kepler.specs.Contract.{AnomalyAt}
 use Rattle.kepler.specs.Solution.{solution}
 use Rattle.kepler.specs.declared.Anomaly.{Anomaly}
@@ -44,22 +42,6 @@ use Rattle.yurdelmiz.proofs.Elements.{elements-back, four-below}
 use Rattle.yurdelmiz.proofs.Endings.{ends-refused, ends-given}
 
 -- ---- status 0
-
-numbered : (r : Refusal) → 1 ≤ numberOf r
-numbered Eccentricity = lit≤ tt
-numbered SemiMajorAxis = lit≤ tt
-numbered PerigeeDistance = lit≤ tt
-numbered Inclination = lit≤ tt
-numbered MeanMotion = lit≤ tt
-numbered DriftRate = lit≤ tt
-numbered EpochRevolution = lit≤ tt
-numbered Time = lit≤ tt
-numbered NotConverged = lit≤ tt
-numbered TelemetryLength = lit≤ tt
-numbered OutputLength = lit≤ tt
-numbered Trailer = lit≤ tt
-numbered Labels = lit≤ tt
-numbered Component = lit≤ tt
 
 fault-numbered : (f : Fault) → (101 ≤ faultNumber f) × (faultNumber f ≤ 109)
 fault-numbered Name = (lit≤ tt, lit≤ tt)
@@ -95,7 +77,7 @@ pub record KeplerAnswer (e M : ℕ) (answer : List ℕ) : Type 0 where
 kepler-by : (e M : ℕ) (answer : List ℕ) (t : Bool) → leb e 9_000_000 ≡ t → M < 2 ^ 32 → Ending (anomalyOutcome (solution e M)) answer → KeplerAnswer e M answer
 kepler-by e M answer true h angle g =
     let le = leb-true e 9_000_000 h in
-    record { eccentricity-le = le; anomaly = solver.anomalyOf e M; anomaly-at = solver.anomaly-at e M le angle; answer-is = rw (solver.never-refused-9 e M le angle) at g }
+    record { eccentricity-le = le; anomaly = solver.anomalyOf e M; anomaly-at = solver.anomaly-at e M le angle; answer-is = rw (solver.solved e M le) at g }
 kepler-by e M answer false h angle g =
     let z = rw (solver.refused e M (leb-false e 9_000_000 h)) at g in absurd (omega arith)
 
@@ -105,14 +87,14 @@ kepler-accepted e M buffer angle s = kepler-by e M _ (leb e 9_000_000) refl angl
 
 -- ---- yurdelmiz_position
 
--- the bytes are those of the definition's state, with demand 3 and the radius between perigee and apogee, and of its Earth-fixed position
+-- the bytes are those of the definition's state, with the bracket, demand 3 and the radius between perigee and apogee, and of its Earth-fixed position
 pub record PositionAnswer (el : Elements) (t : ℤ) (answer : List ℕ) : Type 0 where
   pub state : State
   pub state-at : StateAt el t state
   pub answer-is : answer ≡ stateBytes state (earthFixedAt (state .position) t)
 
 position-by : (el : Elements) (t : ℤ) (answer : List ℕ) (r : Placement) → placement el t ≡ r → el .«mean_anomaly» < 2 ^ 32 → Ending (stateOutcome r t) answer → PositionAnswer el t answer
-position-by el t answer (placement.Refused refusal) e angle g = absurd (omega (arith, numbered refusal))
+position-by el t answer (placement.Refused refusal) e angle g = absurd (omega (arith, never-0 refusal))
 position-by el t answer (placement.Placed s) e angle g = record { state = s; state-at = placed-state el t angle s e; answer-is = g }
 
 pub position-accepted : (elements : List ℕ) (t : ℤ) (buffer : List ℕ) → ((k : ℕ) → getD elements k 0 < 256) → positionCall elements t buffer .status ≡ 0
@@ -167,7 +149,7 @@ label-by : (elements telemetry output answer : List ℕ) (r : Labelling) → lab
     → labelCall elements telemetry output .answer ≡ answer
     → Ending (labelOutcome r (outputAfter (elementsOf elements) telemetry output)) answer → LabelAnswer elements telemetry output
 unfolding readCall
-label-by elements telemetry output answer (labelling.Refused refusal place) e a g = absurd (omega (arith, numbered refusal))
+label-by elements telemetry output answer (labelling.Refused refusal place) e a g = absurd (omega (arith, never-0 refusal))
 label-by elements telemetry output answer (labelling.Labelled counts) e a g =
     record {
       counts = counts;

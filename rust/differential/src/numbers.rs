@@ -14,6 +14,14 @@ pub fn sine(random: &mut Random, report: &mut Report) {
     report.equal(&angle, "", library, reference);
 }
 
+/// k(E) ≤ M < k(E + 1), with the reference's k.
+fn bracketed(eccentricity: u32, mean_anomaly: u32, eccentric_anomaly: u32) -> bool {
+    let [at, next] = [0, 1].map(|step| {
+        reference::kepler::mean_anomaly_of(eccentricity, i64::from(eccentric_anomaly) + step)
+    });
+    (at..next).contains(&i64::from(mean_anomaly))
+}
+
 pub fn kepler(random: &mut Random, report: &mut Report) {
     let (eccentricity, mean_anomaly) = inputs::kepler(random);
     let library = yurdelmiz::kepler(eccentricity, mean_anomaly)
@@ -22,7 +30,11 @@ pub fn kepler(random: &mut Random, report: &mut Report) {
     let reference = reference::kepler::solve(eccentricity, mean_anomaly)
         .map(|anomaly| (anomaly.angle, anomaly.halvings))
         .map_err(|refusal| (refusal.number(), 0));
-    report.outcomes(&(eccentricity, mean_anomaly), library, reference);
+    let input = (eccentricity, mean_anomaly);
+    report.outcomes(&input, library, reference);
+    if let Ok((angle, _)) = library {
+        report.equal(&input, "bracket", bracketed(eccentricity, mean_anomaly, angle), true);
+    }
 }
 
 /// The library's elements.

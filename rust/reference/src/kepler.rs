@@ -42,7 +42,7 @@ fn halve(eccentricity: u32, mean_anomaly: i64) -> i64 {
     lower
 }
 
-/// The eccentric anomaly of a mean anomaly; refusals 1 and 9.
+/// The eccentric anomaly of a mean anomaly; refusal 1.
 pub fn solve(eccentricity: u32, mean_anomaly: Angle) -> Result<EccentricAnomaly, Refusal> {
     if eccentricity > ECCENTRICITY_MAX {
         return Err(Refusal::Eccentricity);
@@ -50,12 +50,6 @@ pub fn solve(eccentricity: u32, mean_anomaly: Angle) -> Result<EccentricAnomaly,
     if eccentricity == 0 {
         return Ok(EccentricAnomaly { angle: mean_anomaly, halvings: 0 });
     }
-    let asked = i64::from(mean_anomaly);
-    let found = halve(eccentricity, asked);
-    let at = mean_anomaly_of(eccentricity, found);
-    let next = mean_anomaly_of(eccentricity, found + 1);
-    if !(at <= asked && asked < next) {
-        return Err(Refusal::NotConverged);
-    }
+    let found = halve(eccentricity, i64::from(mean_anomaly));
     Ok(EccentricAnomaly { angle: found as u32, halvings: 32 })
 }

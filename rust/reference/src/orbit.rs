@@ -119,7 +119,7 @@ impl Elements {
         (revolution as i32, sum as u32)
     }
 
-    /// State at `time` of elements that `check` accepts; refusals 8 and 9.
+    /// State at `time` of elements that `check` accepts; refusal 8.
     pub(crate) fn checked_state(&self, time: i64) -> Result<State, Refusal> {
         let elapsed = self.elapsed(time)?;
         let (revolution, mean_anomaly) = self.turns(elapsed);
@@ -144,7 +144,7 @@ impl Elements {
         })
     }
 
-    /// State at `time`; refusals 1 to 9.
+    /// State at `time`; refusals 1 to 8.
     pub fn state(&self, time: i64) -> Result<State, Refusal> {
         self.check()?;
         self.checked_state(time)

@@ -1,6 +1,6 @@
 //! The refusals, with the numbers of document 01's table.
 
-/// Why an input is refused.
+/// Why an input is refused. The number 9 stands for nothing, and never will.
 #[derive(Clone, Copy, Debug, PartialEq, Eq)]
 pub enum Refusal {
     /// Eccentricity above 9,000,000.
@@ -19,8 +19,6 @@ pub enum Refusal {
     EpochRevolution = 7,
     /// Epoch or time outside the years covered, or too far apart.
     Time = 8,
-    /// The halving did not end with the mean anomaly between its neighbours.
-    NotConverged = 9,
     /// Telemetry that is no whole number of records, or over 1,024 of them.
     TelemetryLength = 10,
     /// Output too short for the labels and the trailer.

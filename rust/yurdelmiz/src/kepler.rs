@@ -13,7 +13,7 @@ pub struct EccentricAnomaly {
     pub halvings: u32,
 }
 
-/// Solves Kepler's equation for a mean anomaly; refusals 1 and 9.
+/// Solves Kepler's equation for a mean anomaly; refusal 1.
 pub fn kepler(eccentricity: u32, mean_anomaly: u32) -> Result<EccentricAnomaly, Refusal> {
     let mut answer = [0; ffi::KEPLER_BYTES];
     // SAFETY: the slice is `answer`.

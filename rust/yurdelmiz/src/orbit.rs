@@ -34,7 +34,7 @@ pub struct State {
     pub earth_fixed: Position,
 }
 
-/// The satellite at a time; refusals 1 to 9.
+/// The satellite at a time; refusals 1 to 8.
 pub fn position(elements: &Elements, time: i64) -> Result<State, Refusal> {
     let elements = elements.to_bytes();
     let mut answer = [0; ffi::POSITION_BYTES];

@@ -3,7 +3,7 @@
 use std::error::Error;
 use std::fmt;
 
-/// Why an input is refused.
+/// Why an input is refused. 9 is not used, and not to be used again.
 #[derive(Clone, Copy, Debug, PartialEq, Eq, Hash)]
 pub enum Refusal {
     /// 1: above 9,000,000 units of 10^-7.
@@ -22,8 +22,6 @@ pub enum Refusal {
     EpochRevolution,
     /// 8: epoch or time outside -2,834,956,800 to 3,476,476,799, or over 31,622,400 s apart.
     Time,
-    /// 9: the halving did not end with the mean anomaly between its two neighbours.
-    NotConverged,
     /// 10: no multiple of 16 bytes, or over 1,024 records.
     TelemetryLength,
     /// 11: shorter than 24 bytes a record and 16.
@@ -37,7 +35,7 @@ pub enum Refusal {
 }
 
 /// Each refusal with its number and its sentence.
-const TABLE: [(Refusal, u32, &str); 14] = [
+const TABLE: [(Refusal, u32, &str); 13] = [
     (Refusal::Eccentricity, 1, "the eccentricity is above 0.9"),
     (Refusal::SemiMajorAxis, 2, "the semi-major axis is not within 6,600 to 100,000 km"),
     (Refusal::PerigeeDistance, 3, "the perigee is less than 6,478 km from the Earth's centre"),
@@ -46,7 +44,6 @@ const TABLE: [(Refusal, u32, &str); 14] = [
     (Refusal::DriftRate, 6, "a drift rate is beyond 20 degrees a day"),
     (Refusal::EpochRevolution, 7, "the epoch's revolution is above 99,999"),
     (Refusal::Time, 8, "the time, or the epoch, is not within 1900 March 1 to 2100 February 28, or they are over 366 days apart"),
-    (Refusal::NotConverged, 9, "Kepler's equation was not solved"),
     (Refusal::TelemetryLength, 10, "the telemetry is not a whole number of 16-byte records, or has over 1,024"),
     (Refusal::OutputLength, 11, "the output has no room for the labels"),
     (Refusal::Trailer, 12, "the label file's length and its trailer do not fit"),

@@ -4,12 +4,13 @@ use yurdelmiz::{Elements, Refusal, Refused};
 
 #[test]
 fn numbers_are_those_of_the_table() {
-    for number in 1..=14 {
+    for number in (1..=8).chain(10..=14) {
         let refusal = Refusal::from_number(number).expect("a refusal of the table");
         assert_eq!(refusal.number(), number);
         assert!(!refusal.sentence().is_empty());
     }
-    for number in [0, 15, yurdelmiz::ffi::BAD_BUFFER] {
+    // 9 is not used.
+    for number in [0, 9, 15, yurdelmiz::ffi::BAD_BUFFER] {
         assert_eq!(Refusal::from_number(number), None);
     }
 }
