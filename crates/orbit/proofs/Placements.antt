@@ -49,16 +49,16 @@ module _ (el : Elements) (t : ℤ) where
   placement-placed e = rw (e, placement)
 
   -- ---- what a state owes
-  pub state-owes : el .«mean_anomaly» < 2 ^ 32 → AcceptedAt el t → StateOwes el t (stateOf el t)
+  state-owes : el .«mean_anomaly» < 2 ^ 32 → AcceptedAt el t → StateOwes el t (stateOf el t)
   unfolding stateOf anomalyAt celestialAt inPlane
   state-owes held a =
-      let el' = a .elements in
+      let e = a .elements .eccentricity-le in
       let below = mean-anomaly-below el t held in
       record {
-        bracket = always-bracketed _ _ (el' .eccentricity-le) below;
-        demand3 = anomaly-demand3 _ _ (el' .eccentricity-le) below;
-        radius-between = radius-between _ _ _ (el' .eccentricity-le) (C-within _);
-        box = celestial-box _ _ _ (plane-box _ _ _ _ _ (el' .axis-le) (el' .eccentricity-le) (minor-le _) (C-within _) (S-within _));
+        bracket = always-bracketed _ _ e below;
+        demand3 = anomaly-demand3 _ _ e below;
+        radius-between = radius-between _ _ _ e (C-within _);
+        box = celestial-box _ _ _ (plane-box _ _ _ _ _ (a .elements .axis-le) e (minor-le _) (C-within _) (S-within _));
       }
 
   pub state-at : {s : State} → el .«mean_anomaly» < 2 ^ 32 → checkedAt el t ≡ verdict.Passed → s ≡ stateOf el t → StateAt el t s

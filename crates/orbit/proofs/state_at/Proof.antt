@@ -61,7 +61,8 @@ eccentric-anomaly-requires c κs = elements-accepted (c .before .before .before)
 
 anomaly-at : (c : tie.After-eccentric-anomaly) → let a = start c .args in c .eccentric-anomaly .result ≡ anomalyAt (a .elements) (a .time)
 anomaly-at c =
-    anomaly-is (start c .args .elements) (start c .args .time) _ (rw (phase-at (c .before .before .before) .anomaly-is) at (c .eccentric-anomaly .ensures))
+    anomaly-is (start c .args .elements) (start c .args .time) _
+    (subst (λ (M : ℕ). AnomalyAt (start c .args .elements .eccentricity) M (c .eccentric-anomaly .result)) (phase-at (c .before .before .before) .anomaly-is) (c .eccentric-anomaly .ensures))
 
 of-requires : tie.Need-of-requires
 of-requires c κs = search needs
