@@ -6,7 +6,6 @@ use Rattle.integer.specs.Bound.{Within}
 use Rattle.integer.specs.Contract.{FloorDivided}
 use Rattle.integer.specs.declared.FloorQuotient.{FloorQuotient}
 use Rattle.trig.specs.Contract.{SinesAt}
-use Rattle.trig.specs.declared.Sines.{Sines}
 use Rattle.kepler.specs.Bracket.{Bracketed}
 use Rattle.kepler.specs.Demand.{Demand3}
 use Rattle.position.specs.Box.{PlaneBox, CelestialBox}
