@@ -6,3 +6,4 @@ pub mod Division
 pub mod Tests
 pub mod TwosComplement
 pub mod Root
+pub mod DigitByDigit

@@ -1,13 +1,14 @@
 -- The whole square root is the only number whose square is not above n and whose successor's square is. Assumes nothing.
 use mathlib.Core.Path.{_≡_}
 use mathlib.Core.Bool.{true, false}
-use Prim.Native.Nat.{ℕ, zero, suc, _*_, _≤_, _<_}
+use Prim.Native.Nat.{ℕ, zero, suc, _+_, _*_, _≤_, _<_}
 use native.Mathlib.Decide.{decLe}
 use native.Mathlib.Nat.{mul-le-mul, lt-of-not-le}
 use native.Mathlib.Omega.{arith}
 use borrow.Author.Tests.{le-leb, lt-leb}
 use lib.Dec.{leb}
 use Rattle.integer.specs.Root.{root}
+use Rattle.integer.proofs.Ring.{ring}
 
 pub record IsRoot (n r : ℕ) : Type 0 where
   pub low : r * r ≤ n
@@ -39,6 +40,11 @@ root-unique n r h =
     let g = root-is n in
     omega (arith, square-below n r (root n) (h .high) (g .low), square-below n (root n) r (g .high) (h .low))
 
--- where n lies between the squares of two neighbours, the lower is the root
-pub root-between : (n low high : ℕ) → low * low ≤ n → n < high * high → high ≤ suc low → low ≡ root n
-root-between n low high h k m = root-unique n low (record { low = h; high = omega (arith, mul-le-mul m m) })
+-- r is the whole root of r·r + m where m is at most 2·r, and nowhere else: the next square is r·r + (2·r + 1)
+pub root-of-sum : (r m : ℕ) → m ≤ 2 * r → r ≡ root (r * r + m)
+root-of-sum r m h = root-unique (r * r + m) r (record { low = omega arith; high = simp ring (omega arith) })
+
+pub remainder-le : (r m : ℕ) → r ≡ root (r * r + m) → m ≤ 2 * r
+remainder-le r m e =
+    let h : r * r + m < suc r * suc r = rw (← e) at (root-is (r * r + m) .high) in
+    omega (arith, simp ring at h)

@@ -6,7 +6,7 @@ ghost use lib.Signed.{mag, quotZ};
 ghost use mir.Syntax.{w32, w64};
 ghost use mir.Val.{ofZ, toZ};
 ghost use Rattle.integer.specs.Bound.{Within};
-ghost use Rattle.integer.specs.Contract.{FloorDivided};
+ghost use Rattle.integer.specs.Contract.{FloorDivided, RootSoFar, BitAdded};
 ghost use Rattle.integer.specs.Root.{root};
 
 // x where x is not negative, else -1 - x.
@@ -91,21 +91,51 @@ pub fn i32_of_bits(b: u32) -> i32
     (i64_of_bits(b as u64 * 0x1_0000_0000) >> 32) as i32
 }
 
-// The whole square root, down, by halving from 0 and 2^32.
+// The whole square root of a number's highest bits, and what the root's square leaves of them.
+struct PartialRoot {
+    root: u64,
+    remainder: u64,
+}
+
+// One round of the digit-by-digit method: two bits are brought down behind the remainder, and the root
+// gets its next bit, 1 where the trial subtrahend 4·root + 1 is not above what is then left.
+fn next_bit(partial: PartialRoot, pair: u64) -> PartialRoot
+    requires { ⌜ RootSoFar partial × (partial .root < 2 ^ 31) × (pair < 4) ⌝ }
+    ensures { λ r. ⌜ BitAdded partial pair r ⌝ }
+{
+    let remainder = (partial.remainder << 2) + pair;
+    let doubled = partial.root << 1;
+    let subtrahend = (partial.root << 2) + 1;
+    if remainder < subtrahend {
+        PartialRoot {
+            root: doubled,
+            remainder: remainder,
+        }
+    } else {
+        PartialRoot {
+            root: doubled + 1,
+            remainder: remainder - subtrahend,
+        }
+    }
+}
+
+// The whole square root, down, without a division: 32 rounds, each of which shifts the two highest bits
+// out of those that are left.
 pub fn square_root(n: u64) -> u64
     ensures { λ r. ⌜ (r ≡ root n) × (r < 2 ^ 32) ⌝ }
 {
-    let mut low: u64 = 0;
-    let mut high: u64 = 4294967296;
-    while low + 1 < high {
-        let middle = (low + high) / 2;
-        if middle * middle <= n {
-            low = middle;
-        } else {
-            high = middle;
-        }
+    let mut partial = PartialRoot {
+        root: 0,
+        remainder: 0,
+    };
+    let mut rest = n;
+    let mut round: u32 = 0;
+    while round < 32 {
+        partial = next_bit(partial, rest >> 62);
+        rest = rest << 2;
+        round += 1;
     }
-    low
+    partial.root
 }
 
 // One, in units of 2^-30.

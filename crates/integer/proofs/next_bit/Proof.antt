@@ -1,0 +1,33 @@
+-- `integer::next_bit` meets its contract. Assumes nothing.
+use borrow.Author.Needs.{needs}
+use native.Mathlib.Omega.{arith}
+use Rattle.integer.proofs.Root.{remainder-le}
+use Rattle.integer.proofs.DigitByDigit.{bit-added}
+use Rattle.integer.proofs.next_bit.Statement.{statement}
+use Rattle.integer.proofs.next_bit.Tie as tie
+
+add-remainder : tie.Need-add-remainder
+add-remainder c = search needs
+
+add-subtrahend : tie.Need-add-subtrahend
+add-subtrahend c = search needs
+
+add-t9 : tie.Need-add-t9
+add-t9 c = search needs
+
+returns : tie.Need-returns
+returns c =
+    let s = c .before .before .before .before in
+    let p = s .args .partial in
+    let m = remainder-le (p .root) (p .remainder) (s .pre .0) in
+    bit-added p _ (s .args .pair) 0 (omega arith) (omega arith) (omega arith) (omega arith)
+
+returns-2 : tie.Need-returns-2
+returns-2 c =
+    let s = c .before .before .before .before in
+    let p = s .args .partial in
+    let m = remainder-le (p .root) (p .remainder) (s .pre .0) in
+    bit-added p _ (s .args .pair) 1 (omega arith) (omega arith) (omega arith) (omega arith)
+
+pub next-bit-spec : {M : Type 1} → statement M
+next-bit-spec = tie.close (tie.spec add-remainder add-subtrahend add-t9 returns returns-2)
