@@ -3,6 +3,7 @@
 //!     bench [REPEATS]
 //!     bench once RECORDS      labels and reads one day, for a counter of instructions
 //!     bench kepler ECCENTRICITY SOLUTIONS     solves Kepler's equation, for the same
+//!     bench root ROOTS        takes square roots, for the same
 //!
 //! Each repeat times both, one after the other, and gives a ratio; printed are the median times,
 //! the median ratio, and the least and greatest ratio over the repeats.
@@ -244,9 +245,42 @@ fn solutions(eccentricity: u32, count: u32) {
     }
 }
 
+/// Squares of minor axes of all accepted eccentricities, one after another in no order.
+struct SquaredMinorAxes(u32);
+
+impl SquaredMinorAxes {
+    fn next(&mut self) -> u64 {
+        self.0 = self.0.wrapping_add(0x9e37_79b9);
+        let e30 = (u64::from(self.0) * 966_367_642) >> 32;
+        black_box((1 << 60) - e30 * e30)
+    }
+}
+
+/// One square root.
+fn root(repeats: usize) -> Comparison {
+    let (mut first, mut second) = (SquaredMinorAxes(0), SquaredMinorAxes(0));
+    compare(
+        repeats,
+        &mut || {
+            black_box(square_root::square_root(first.next()));
+        },
+        &mut || {
+            black_box(second.next().isqrt());
+        },
+    )
+}
+
+/// Square roots by the library: to be run under a counter of instructions.
+fn roots(count: u32) {
+    let mut squares = SquaredMinorAxes(0);
+    for _ in 0..count {
+        black_box(square_root::square_root(squares.next()));
+    }
+}
+
 fn usage() -> ! {
     eprintln!(
-        "usage: bench [REPEATS]\n       bench once RECORDS\n       bench kepler ECCENTRICITY SOLUTIONS"
+        "usage: bench [REPEATS]\n       bench once RECORDS\n       bench kepler ECCENTRICITY SOLUTIONS\n       bench root ROOTS"
     );
     std::process::exit(2);
 }
@@ -265,6 +299,10 @@ fn main() {
             }
             _ => usage(),
         },
+        ["root", count] => match count.parse() {
+            Ok(count) => return roots(count),
+            _ => usage(),
+        },
         [word] => match word.parse() {
             Ok(repeats) if repeats > 0 => repeats,
             _ => usage(),
@@ -276,6 +314,7 @@ fn main() {
         let name = format!("Kepler's equation, e {}", f64::from(eccentricity) / 1e7);
         print(&name, &kepler(repeats, eccentricity));
     }
+    print("the square root", &root(repeats));
     print("reading 1,024 labels", &read(repeats));
     print("labelling 1,024 records", &label(repeats, DAY_RECORDS));
 

@@ -276,3 +276,17 @@ pub fn room(random: &mut Random, telemetry: usize) -> usize {
         _ => exact,
     }
 }
+
+/// A number to take the root of: any, of any length, next to a power of two, or at either end of
+/// the numbers that have one root.
+pub fn radicand(random: &mut Random) -> u64 {
+    match random.below(4) {
+        0 => random.u64(),
+        1 => random.u64() >> random.below(64),
+        2 => (1_u64 << random.below(64)).wrapping_add(random.below(5)).wrapping_sub(2),
+        _ => {
+            let root = u64::from(random.u32() >> random.below(32));
+            (root * root).wrapping_add(random.pick(&[u64::MAX, 0, 2 * root, 2 * root + 1]))
+        }
+    }
+}

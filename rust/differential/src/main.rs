@@ -51,7 +51,7 @@ fn main() -> ExitCode {
         return ExitCode::from(2);
     };
     println!("seed {seed}");
-    let subjects: [(&str, u64, Subject); 9] = [
+    let subjects: [(&str, u64, Subject); 10] = [
         ("sine", count, numbers::sine),
         ("kepler", count, numbers::kepler),
         ("position", count, numbers::position),
@@ -61,6 +61,7 @@ fn main() -> ExitCode {
         ("read", count / 100, files::read),
         ("buffers", count / 100, buffers::lent),
         ("elements", count / 10, elements_files::elements),
+        ("root", count, numbers::root),
     ];
     let mut differences = 0;
     for (number, (name, rounds, compare)) in subjects.into_iter().enumerate() {

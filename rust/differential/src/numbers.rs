@@ -1,4 +1,4 @@
-//! Comparisons of sine, Kepler's equation, position, Sun and shade.
+//! Comparisons of sine, Kepler's equation, position, Sun, shade and the square root.
 
 use reference::orbit::{Elements, Position};
 use reference::sun::Direction;
@@ -185,4 +185,9 @@ pub fn shade(random: &mut Random, report: &mut Report) {
         .map(|shade| shade == reference::eclipse::Shade::Dark)
         .map_err(|refusal| (refusal.number(), 0));
     report.outcomes(&(position, sun), library, reference);
+}
+
+pub fn root(random: &mut Random, report: &mut Report) {
+    let n = inputs::radicand(random);
+    report.equal(&n, "", square_root::square_root(n), n.isqrt());
 }
