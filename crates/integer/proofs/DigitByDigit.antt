@@ -12,6 +12,7 @@ use Rattle.integer.proofs.Ring.{ring}
 use Rattle.integer.proofs.Root.{root-of-sum}
 
 -- ---- a round
+-- the square of the root with its next bit
 square-next : (r bit : ℕ) → bit ≤ 1 → (2 * r + bit) * (2 * r + bit) ≡ 4 * (r * r) + bit * (4 * r + 1)
 square-next r zero h = simp ring (omega arith)
 square-next r (suc zero) h = simp ring (omega arith)
