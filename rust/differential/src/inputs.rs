@@ -277,8 +277,8 @@ pub fn room(random: &mut Random, telemetry: usize) -> usize {
     }
 }
 
-/// A number to take the root of: any, of any length, next to a power of two, or at either end of
-/// the numbers that have one root.
+/// A number to take the root of: any, of any length, at or next to a power of two, or at or next to
+/// either end of the numbers that have one root.
 pub fn radicand(random: &mut Random) -> u64 {
     match random.below(4) {
         0 => random.u64(),
