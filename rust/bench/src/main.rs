@@ -245,7 +245,7 @@ fn solutions(eccentricity: u32, count: u32) {
     }
 }
 
-/// Squares of minor axes of all accepted eccentricities, one after another in no order.
+/// Squares of minor axes, from the circle's to that of the greatest eccentricity, in no order.
 struct SquaredMinorAxes(u32);
 
 impl SquaredMinorAxes {

@@ -1,5 +1,6 @@
 -- `integer::next_bit` meets its contract. Assumes nothing.
 use borrow.Author.Needs.{needs}
+use Prim.Native.Nat.{_*_, _≤_}
 use native.Mathlib.Omega.{arith}
 use Rattle.integer.proofs.Root.{remainder-le}
 use Rattle.integer.proofs.DigitByDigit.{bit-added}
@@ -15,19 +16,19 @@ add-subtrahend c = search needs
 add-t9 : tie.Need-add-t9
 add-t9 c = search needs
 
+-- no bit of the remainder is lost in its shift
+remainder-small : (s : tie.Start) → s .args .partial .remainder ≤ 2 * s .args .partial .root
+remainder-small s = remainder-le (s .args .partial .root) (s .args .partial .remainder) (s .pre .0)
+
 returns : tie.Need-returns
 returns c =
-    let s = c .before .before .before .before in
-    let p = s .args .partial in
-    let m = remainder-le (p .root) (p .remainder) (s .pre .0) in
-    bit-added p _ (s .args .pair) 0 (omega arith) (omega arith) (omega arith) (omega arith)
+    let m = remainder-small (c .before .before .before .before) in
+    bit-added _ _ _ 0 (omega arith) (omega arith) (omega arith) (omega arith)
 
 returns-2 : tie.Need-returns-2
 returns-2 c =
-    let s = c .before .before .before .before in
-    let p = s .args .partial in
-    let m = remainder-le (p .root) (p .remainder) (s .pre .0) in
-    bit-added p _ (s .args .pair) 1 (omega arith) (omega arith) (omega arith) (omega arith)
+    let m = remainder-small (c .before .before .before .before) in
+    bit-added _ _ _ 1 (omega arith) (omega arith) (omega arith) (omega arith)
 
 pub next-bit-spec : {M : Type 1} → statement M
 next-bit-spec = tie.close (tie.spec add-remainder add-subtrahend add-t9 returns returns-2)
