@@ -142,7 +142,7 @@ uint32_t yurdelmiz_sun(int64_t time, uint8_t *answer, size_t answer_len);
  *    44  u32  revolution at the epoch
  *
  *   answer, 68 bytes; positions in metres:
- *     0  i32  revolution
+ *     0  i32  revolution, counted from the mean ascending node
  *     4  u32  eccentric anomaly E
  *     8  u32  halvings made, 32 or 0
  *    12  u32  radius, metres
@@ -187,7 +187,7 @@ uint64_t yurdelmiz_elements(const uint8_t *text, size_t text_len,
 
 /* Labels a day's telemetry: 24 bytes a record from the start of `output`, then the trailer's 16.
  * What lies behind the trailer is unchanged. Refusals 1 to 7 for the elements, 8 for the epoch, 10,
- * 11, all at place 0; then 8, 9 for each record in order, at its place. `elements` as above.
+ * 11, all at place 0; then 8 for each record in order, at its place. `elements` as above.
  *
  *   telemetry, 16 bytes a record, at most 1,024 records:
  *     0  i64  time
@@ -196,7 +196,7 @@ uint64_t yurdelmiz_elements(const uint8_t *text, size_t text_len,
  *
  *   output, 24 bytes a label:
  *     0  i64  time
- *     8  i32  revolution
+ *     8  i32  revolution, as in the answer of yurdelmiz_position
  *    12  u8   side: 0 withheld, 1 training, 2 test
  *    13  u8   shade: 0 lit, 1 dark
  *    14  u8   reading: 0 missing, 1 valid, 2 saturated

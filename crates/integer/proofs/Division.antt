@@ -1,28 +1,51 @@
 -- The quotient down and the mod. Assumes nothing.
 use mathlib.Core.Path.{_≡_, ap}
 use Prim.Native.Nat.{ℕ, suc, _+_, _*_, _-_, _/_, _%_, _≤_, _<_}
-use native.Mathlib.Nat.{zero-mul, mod-lt, div-add-mod'}
+use native.Mathlib.Decide.{decLe}
+use native.Mathlib.Nat.{zero-mul, suc-mul, add-mul, mod-lt, div-add-mod', lt-of-not-le, mul-le-mul-right}
 use native.Mathlib.Omega.{arith}
-use lib.IntN.{ℤ, pos, negsuc, _+ℤ_, _*ℤ_}
+use lib.IntN.{ℤ, pos, negsuc}
 use Rattle.integer.specs.Bound.{Within}
 use Rattle.integer.specs.Division.{floorZ, modZ}
 use Rattle.integer.proofs.Bounds.{div-mono}
-use Rattle.integer.proofs.Parts.{up, dn, signed, parts-add, parts-scale}
+use Rattle.integer.proofs.Parts.{up, dn, eq-parts}
 
 pub mod-below : (z : ℤ) (d : ℕ) → 0 < d → modZ z d < d
 mod-below (pos a) d h = mod-lt a h
 mod-below (negsuc a) d h = omega arith
 
 -- z is the quotient times the divisor, and the remainder
-parts-floor : (z : ℤ) (d : ℕ) → 0 < d → up z + dn (floorZ z d) * d ≡ up (floorZ z d) * d + (modZ z d + dn z)
+pub parts-floor : (z : ℤ) (d : ℕ) → 0 < d → up z + dn (floorZ z d) * d ≡ up (floorZ z d) * d + (modZ z d + dn z)
 parts-floor (pos a) d h = let e = div-add-mod' a d in omega (arith, zero-mul d)
 parts-floor (negsuc a) d h = let e = div-add-mod' a d in let m = mod-lt a h in omega (arith, zero-mul d)
 
--- the same of signed numbers: what K3 and K8 will cite, that the revolution never falls
-pub floor-law : (z : ℤ) (d : ℕ) → 0 < d → floorZ z d *ℤ pos d +ℤ pos (modZ z d) ≡ z
-floor-law z d h =
-    let s = parts-scale (floorZ z d) d in
-    omega (signed, parts-add (floorZ z d *ℤ pos d) (pos (modZ z d)), parts-floor z d h, s .0, s .1)
+quotient-le : (a b d r s : ℕ) → s < d → a * d + r ≤ b * d + s → a ≤ b
+quotient-le a b d r s h le = by (decLe a b)
+  where
+    by : Dec (a ≤ b) → a ≤ b
+    by (yes l) = l
+    by (no f) = let l = mul-le-mul-right d (lt-of-not-le f) in absurd (omega (arith, suc-mul b d))
+
+-- a quotient down rises with its number: where z + i·d ≤ z' + j·d, z/d + i ≤ z'/d + j
+pub floor-mono : (z z' : ℤ) (d i j : ℕ) → 0 < d → up z + (dn z' + i * d) ≤ up z' + (dn z + j * d)
+    → up (floorZ z d) + (dn (floorZ z' d) + i) ≤ up (floorZ z' d) + (dn (floorZ z d) + j)
+floor-mono z z' d i j h le =
+    let q = floorZ z d in
+    let q' = floorZ z' d in
+    quotient-le (up q + (dn q' + i)) (up q' + (dn q + j)) d (modZ z d) (modZ z' d) (mod-below z' d h)
+    (simp add-mul (omega (arith, parts-floor z d h, parts-floor z' d h)))
+
+-- q and r are the quotient and the remainder where z = q·d + r and r is below d
+pub floor-unique : (z q : ℤ) (d r : ℕ) → r < d → up z + dn q * d ≡ up q * d + (r + dn z) → (floorZ z d ≡ q) × (modZ z d ≡ r)
+floor-unique z q d r h e =
+    let f = floorZ z d in
+    let m = modZ z d in
+    let p = parts-floor z d (omega arith) in
+    let le = quotient-le (up f + dn q) (up q + dn f) d m r h (simp add-mul (omega arith)) in
+    let ge = quotient-le (up q + dn f) (up f + dn q) d r m (mod-below z d (omega arith)) (simp add-mul (omega arith)) in
+    let same : up f + dn q ≡ up q + dn f = omega arith in
+    let product = ap (λ (n : ℕ). n * d) same in
+    (eq-parts f q same, omega (arith, simp add-mul at product))
 
 pub within-floor : {b : ℕ} (z : ℤ) (d : ℕ) → Within b z → Within (b / d + 1) (floorZ z d)
 within-floor (pos a) d h = record { within = let m = div-mono d (h .within) in omega arith }

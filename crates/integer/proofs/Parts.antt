@@ -4,11 +4,13 @@
 use mathlib.Core.Path.{_≡_, refl, sym, ap, _∙_, subst}
 use mathlib.Core.Bool.{Bool, false, not}
 use Prim.Native.Nat.{ℕ, zero, suc, _+_, _*_, _-_, _≤_}
-use native.Mathlib.Nat.{zero-mul}
+use native.Mathlib.Nat.{zero-mul, mul-zero}
 use native.Mathlib.Omega.{arith}
 use lib.Dec.{T, ltb, ltb→lt, nltb→le, leb→le, le→leb}
 use lib.IntN.{ℤ, pos, negsuc, negℤ, subℕ, _+ℤ_, _-ℤ_, _*ℤ_}
 use lib.Signed.{ltZ, leZ, _≤ℤ_}
+use Rattle.integer.specs.Bound.{Within}
+use Rattle.integer.proofs.Ring.{ring}
 use Rattle.integer.proofs.Sizes.{cond-ind}
 
 abbrev pub up : ℤ → ℕ
@@ -85,3 +87,32 @@ parts-sub a b = let h = parts-add a (negℤ b) in let k = parts-neg b in omega (
 pub parts-scale : (z : ℤ) (k : ℕ) → (up (z *ℤ pos k) ≡ up z * k) × (dn (z *ℤ pos k) ≡ dn z * k)
 parts-scale (pos a) k = (refl, sym (zero-mul k))
 parts-scale (negsuc a) k = let n = parts-neg (pos (suc a * k)) in (n .0 ∙ sym (zero-mul k), n .1)
+
+-- ---- products
+parts-mul : (r z : ℤ) → (up (r *ℤ z) ≡ up r * up z + dn r * dn z) × (dn (r *ℤ z) ≡ up r * dn z + dn r * up z)
+parts-mul (pos a) (pos b) = (omega arith, omega (arith, mul-zero a, zero-mul b))
+parts-mul (pos a) (negsuc b) =
+    let n = parts-neg (pos (a * suc b)) in (omega (arith, n .0, mul-zero a, zero-mul (suc b)), omega (arith, n .1))
+parts-mul (negsuc a) (pos b) =
+    let n = parts-neg (pos (suc a * b)) in (omega (arith, n .0, mul-zero (suc a), zero-mul b), omega (arith, n .1))
+parts-mul (negsuc a) (negsuc b) = (omega arith, omega (arith, mul-zero (suc a), zero-mul (suc b)))
+
+-- where z' is z + k, r·z' is r·z + r·k
+pub parts-later : (r z z' : ℤ) (k : ℕ) → up z' + dn z ≡ up z + (dn z' + k)
+    → up (r *ℤ z') + (dn (r *ℤ z) + dn r * k) ≡ up (r *ℤ z) + (dn (r *ℤ z') + up r * k)
+parts-later r z z' k e =
+    let p = parts-mul r z in
+    let p' = parts-mul r z' in
+    let u = ap (λ (n : ℕ). up r * n) e in
+    let d = ap (λ (n : ℕ). dn r * n) e in
+    omega (arith, p .0, p .1, p' .0, p' .1, simp ring at u, simp ring at d)
+
+-- ---- bounds
+-- a number that is neither above b nor below -b
+pub within-parts : (b : ℕ) (z : ℤ) → up z ≤ dn z + b → dn z ≤ up z + b → Within b z
+within-parts b (pos n) h k = record { within = omega arith }
+within-parts b (negsuc n) h k = record { within = omega arith }
+
+pub parts-within : {b : ℕ} (z : ℤ) → Within b z → (up z ≤ b) × (dn z ≤ b)
+parts-within (pos n) h = (h .within, omega arith)
+parts-within (negsuc n) h = (omega arith, h .within)

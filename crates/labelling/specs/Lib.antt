@@ -1,3 +1,4 @@
 pub mod Record
 pub mod Day
+pub mod Order
 pub mod Contract

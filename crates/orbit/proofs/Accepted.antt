@@ -43,6 +43,7 @@ stood Passed false r e = record { before = refl; holds = refl }
 pub record Accepted (el : Elements) : Type 0 where
   pub eccentricity-le : el .eccentricity ≤ 9_000_000
   pub axis-le : el .«semi_major_axis» ≤ 100_000_000
+  pub motion-ge : 20_000_000 ≤ el .«mean_motion»
   pub motion-le : el .«mean_motion» ≤ 1_700_000_000
   pub node-rate : Within 200_000 (el .«node_rate»)
   pub perigee-rate : Within 200_000 (el .«perigee_rate»)
@@ -65,6 +66,7 @@ accepted el e =
     record {
       eccentricity-le = ltb-false _ _ (s1 .holds);
       axis-le = ltb-false _ _ (or-false (ltb a 6_600_000) (ltb 100_000_000 a) (s2 .holds) .1);
+      motion-ge = ltb-false _ _ (or-false (ltb n 20_000_000) (ltb 1_700_000_000 n) (s5 .holds) .0);
       motion-le = ltb-false _ _ (or-false (ltb n 20_000_000) (ltb 1_700_000_000 n) (s5 .holds) .1);
       node-rate = record { within = ltb-false _ _ (s6 .holds) };
       perigee-rate = record { within = ltb-false _ _ (s6' .holds) };

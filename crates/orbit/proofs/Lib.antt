@@ -1,4 +1,5 @@
 pub mod Accepted
-pub mod MeanAnomaly
+pub mod AnomalyAndDrift
+pub mod Revolution
 pub mod Distances
 pub mod Placements

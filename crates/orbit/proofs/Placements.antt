@@ -20,11 +20,12 @@ use Rattle.orbit.specs.declared.elements.Verdict.the-variants as verdict
 use Rattle.orbit.specs.Contract.{StateOwes, StateAt}
 use Rattle.orbit.specs.Ellipse.{radius}
 use Rattle.orbit.specs.Placement.{inPlane, celestialAt, nodeAt, stateOf, anomalyAt, placement}
+use Rattle.orbit.specs.Revolution.{revolution}
 use Rattle.orbit.specs.Time.{checkedAt}
-use Rattle.orbit.specs.Turns.{meanAnomaly, revolution}
+use Rattle.orbit.specs.Turns.{meanAnomaly}
 use Rattle.orbit.proofs.Accepted.{AcceptedAt, accepted-at}
 use Rattle.orbit.proofs.Distances.{minor-le, plane-box, radius-between}
-use Rattle.orbit.proofs.MeanAnomaly.{mean-anomaly-below}
+use Rattle.orbit.proofs.AnomalyAndDrift.{mean-anomaly-below}
 
 module _ (el : Elements) (t : ℤ) where
   -- a state by its fields

@@ -1,10 +1,8 @@
 -- What the functions ask and owe. Assumes nothing.
 use mathlib.Core.Path.{_≡_}
-use Prim.Native.Nat.{ℕ, _^_, _≤_, _<_}
-use lib.IntN.{ℤ, pos, _*ℤ_}
+use Prim.Native.Nat.{ℕ, _^_, _≤_}
+use lib.IntN.{ℤ}
 use Rattle.integer.specs.Bound.{Within}
-use Rattle.integer.specs.Contract.{FloorDivided}
-use Rattle.integer.specs.declared.FloorQuotient.{FloorQuotient}
 use Rattle.trig.specs.Contract.{SinesAt}
 use Rattle.kepler.specs.Bracket.{Bracketed}
 use Rattle.kepler.specs.Demand.{Demand3}
@@ -18,23 +16,19 @@ use Rattle.orbit.specs.declared.elements.Elements.{Elements}
 use Rattle.orbit.specs.declared.elements.Verdict.the-variants as verdict
 use Rattle.orbit.specs.declared.turns.Phase.{Phase}
 use Rattle.orbit.specs.Ellipse.{minorAxis, Between}
-use Rattle.orbit.specs.Placement.{planeOf, stateOf, placement}
+use Rattle.orbit.specs.Placement.{planeOf, perigeeAt, stateOf, placement}
+use Rattle.orbit.specs.Revolution.{revolution}
 use Rattle.orbit.specs.Time.{checkedAt}
-use Rattle.orbit.specs.Turns.{elapsedOf, meanAnomaly, revolution}
+use Rattle.orbit.specs.Turns.{elapsedOf, meanAnomaly}
 
 -- ---- turns
 pub record Elapsed (el : Elements) (t r : ℤ) : Type 0 where
   pub is : r ≡ elapsedOf el t
   pub small : Within 31_622_400 r
 
--- w and m; within a year's time w is small
-pub record TurnsOf (n : ℕ) (Δ : ℤ) (r : FloorQuotient) : Type 0 where
-  pub divided : FloorDivided (pos n *ℤ Δ) 8_640_000_000_000 r
-  pub quotient-small : Within 9_999 (r .quotient)
-  pub remainder-below : r .remainder < 8_640_000_000_000
-
 pub record PhaseAt (el : Elements) (t : ℤ) (r : Phase) : Type 0 where
   pub anomaly-is : r .«mean_anomaly» ≡ meanAnomaly el t
+  pub perigee-is : r .«argument_of_perigee» ≡ perigeeAt el t
   pub revolution-is : r .revolution ≡ revolution el t
 
 -- ---- the place on the ellipse

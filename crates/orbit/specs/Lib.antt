@@ -1,6 +1,7 @@
 pub mod Elements
 pub mod Time
 pub mod Turns
+pub mod Revolution
 pub mod Ellipse
 pub mod Placement
 pub mod Contract

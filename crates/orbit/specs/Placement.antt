@@ -12,8 +12,9 @@ use Rattle.orbit.specs.declared.Placement.the-variants.{Placed, Refused}
 use Rattle.orbit.specs.declared.elements.Elements.{Elements}
 use Rattle.orbit.specs.declared.elements.Verdict.the-variants as verdict
 use Rattle.orbit.specs.Ellipse.{minorAxis, inPlaneX, inPlaneY, radius}
+use Rattle.orbit.specs.Revolution.{revolution}
 use Rattle.orbit.specs.Time.{checkedAt}
-use Rattle.orbit.specs.Turns.{elapsedOf, meanAnomaly, revolution, drifted}
+use Rattle.orbit.specs.Turns.{elapsedOf, meanAnomaly, drifted}
 
 -- (X, Y, 0) from a, e, b, C(E) and S(E)
 unfoldable pub planeOf : ℕ → ℕ → ℕ → ℤ → ℤ → Position

@@ -81,12 +81,7 @@ pub fn state_at(elements: Elements, plane: Plane, node: Sines, time: i64) -> Sta
     let a = elements.semi_major_axis;
     let e = elements.eccentricity;
     let phase = turns::phase_at(elements, time);
-    let perigee = turns::drift_at(
-        elements,
-        time,
-        elements.argument_of_perigee,
-        elements.perigee_rate,
-    );
+    let perigee = Sines::of(phase.argument_of_perigee);
     let anomaly = kepler::eccentric_anomaly(e, phase.mean_anomaly);
     let sines = Sines::of(anomaly.angle);
     let cosine = sines.cosine;

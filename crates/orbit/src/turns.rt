@@ -1,22 +1,27 @@
-// Turns since the epoch, and the drift of the node and the argument of perigee: document 01, "From
-// elements to position". The functions are called with elements and a time that passed the checks.
+// Turns since the epoch, the drift of the node and the argument of perigee, and the number of the
+// revolution: document 01, "From elements to position". The functions are called with elements and a
+// time that passed the checks. Within a year's time of the epoch A has less than 9,000 turns and a
+// drift less than 1,000, so that every sum of theirs is below 2^46 and fits an i64.
 use crate::elements::Elements;
-use integer::FloorQuotient;
 use trig::Sines;
 use trig::TURN;
 ghost use mathlib.Core.Path.{_≡_};
-ghost use Prim.Native.Nat.{_<_, _≤_, _^_};
+ghost use Prim.Native.Nat.{_+_, _*_, _≤_, _^_};
 ghost use lib.IntN.{pos, _+ℤ_};
 ghost use Rattle.integer.specs.Bound.{Within};
+ghost use Rattle.integer.specs.Division.{modZ};
 ghost use Rattle.trig.specs.Contract.{SinesAt};
 ghost use Rattle.orbit.specs.declared.elements.Verdict.the-variants.{Passed};
 ghost use Rattle.orbit.specs.Time.{checkedAt};
-ghost use Rattle.orbit.specs.Turns.{partOf, elapsedOf, drifted};
-ghost use Rattle.orbit.specs.Contract.{Elapsed, TurnsOf, PhaseAt};
+ghost use Rattle.orbit.specs.Turns.{elapsedOf, advance, drift, drifted};
+ghost use Rattle.orbit.specs.Revolution.{nodePassages};
+ghost use Rattle.orbit.specs.Contract.{Elapsed, PhaseAt};
 
-// The phase of an orbit: the mean anomaly, and the number of the revolution.
+// The phase of an orbit: the mean anomaly, the argument of perigee as drifted, and the number of the
+// revolution.
 pub struct Phase {
     pub mean_anomaly: u32,
+    pub argument_of_perigee: u32,
     pub revolution: i32,
 }
 
@@ -27,57 +32,60 @@ fn elapsed(elements: Elements, time: i64) -> i64
     time - elements.epoch
 }
 
-// n·Δ in whole turns, down, with its remainder.
-fn turns(mean_motion: u32, elapsed: i64) -> FloorQuotient
+// A: the mean anomaly gained, before wrapping.
+fn advance(mean_motion: u32, elapsed: i64) -> i64
     requires { ⌜ («mean_motion» ≤ 1_700_000_000) × Within 31_622_400 elapsed ⌝ }
-    ensures { λ r. ⌜ TurnsOf «mean_motion» elapsed r ⌝ }
+    ensures { λ r. ⌜ (r ≡ advance «mean_motion» elapsed) × Within (9_000 * 2 ^ 32) r ⌝ }
 {
-    integer::floor_div((mean_motion as i64) * elapsed, 8_640_000_000_000)
+    let turns = integer::floor_div((mean_motion as i64) * elapsed, 8_640_000_000_000);
+    let part = turns.remainder * 131_072 / 263_671_875;
+    turns.quotient * (TURN as i64) + part as i64
 }
 
-fn part_turn(remainder: u64) -> u64
-    requires { ⌜ remainder < 8_640_000_000_000 ⌝ }
-    ensures { λ r. ⌜ (r ≡ partOf remainder) × (r < 2 ^ 32) ⌝ }
+// The drift of an angle at a rate, in 10^-4 degree a day, before wrapping. For the argument of perigee
+// it is B.
+fn drift(rate: i32, elapsed: i64) -> i64
+    requires { ⌜ Within 200_000 rate × Within 31_622_400 elapsed ⌝ }
+    ensures { λ r. ⌜ (r ≡ drift rate elapsed) × Within (1_000 * 2 ^ 32) r ⌝ }
 {
-    remainder * 131_072 / 263_671_875
+    integer::floor_div((rate as i64) * elapsed * 262_144, 18_984_375).quotient
 }
 
-// The number of the revolution after some passages of perigee.
-fn revolution(first: u32, passages: i64) -> i32
-    requires { ⌜ (first ≤ 99_999) × Within 10_000 passages ⌝ }
-    ensures { λ r. ⌜ r ≡ pos first +ℤ passages ⌝ }
+// An angle that gained some turns.
+fn wrapped(angle: u32, gained: i64) -> u32
+    requires { ⌜ Within (10_000 * 2 ^ 32) gained ⌝ }
+    ensures { λ r. ⌜ r ≡ modZ (pos angle +ℤ gained) (2 ^ 32) ⌝ }
 {
+    integer::floor_div(angle as i64 + gained, TURN).remainder as u32
+}
+
+// The number of the revolution, where that of the epoch is the first and the mean argument of latitude
+// of the epoch gained some turns. It stays within 109,999, and so within an i32.
+fn revolution(first: u32, mean_anomaly: u32, argument_of_perigee: u32, gained: i64) -> i32
+    requires { ⌜ (first ≤ 99_999) × Within (10_000 * 2 ^ 32) gained ⌝ }
+    ensures { λ r. ⌜ r ≡ pos first +ℤ nodePassages («mean_anomaly» + «argument_of_perigee») gained ⌝ }
+{
+    let latitude = mean_anomaly as u64 + argument_of_perigee as u64;
+    let turns = integer::floor_div(latitude as i64 + gained, TURN).quotient;
+    let passages = turns - (latitude / TURN) as i64;
     (first as i64 + passages) as i32
 }
 
-// The revolution changes where the mean anomaly passes perigee.
 pub(crate) fn phase_at(elements: Elements, time: i64) -> Phase
     requires { ⌜ checkedAt elements time ≡ Passed ⌝ }
     ensures { λ r. ⌜ PhaseAt elements time r ⌝ }
 {
-    let t = turns(elements.mean_motion, elapsed(elements, time));
-    let whole = t.quotient;
-    let sum = elements.mean_anomaly as u64 + part_turn(t.remainder);
-    if sum < TURN {
-        return Phase {
-            mean_anomaly: sum as u32,
-            revolution: revolution(elements.epoch_revolution, whole),
-        };
-    }
+    let elapsed = elapsed(elements, time);
+    let advance = advance(elements.mean_motion, elapsed);
+    let drift = drift(elements.perigee_rate, elapsed);
+    let first = elements.epoch_revolution;
+    let anomaly = elements.mean_anomaly;
+    let perigee = elements.argument_of_perigee;
     Phase {
-        mean_anomaly: (sum - TURN) as u32,
-        revolution: revolution(elements.epoch_revolution, whole + 1),
+        mean_anomaly: wrapped(anomaly, advance),
+        argument_of_perigee: wrapped(perigee, drift),
+        revolution: revolution(first, anomaly, perigee, advance + drift),
     }
-}
-
-// An angle drifted at a rate, in 10^-4 degree a day, over an elapsed time.
-fn drift(angle: u32, rate: i32, elapsed: i64) -> u32
-    requires { ⌜ Within 200_000 rate × Within 31_622_400 elapsed ⌝ }
-    ensures { λ r. ⌜ r ≡ drifted angle rate elapsed ⌝ }
-{
-    let f = integer::floor_div((rate as i64) * elapsed * 262_144, 18_984_375);
-    let g = integer::floor_div((angle as i64) + f.quotient, TURN);
-    g.remainder as u32
 }
 
 // The drifted angle at a time, with its sines.
@@ -85,5 +93,5 @@ pub(crate) fn drift_at(elements: Elements, time: i64, angle: u32, rate: i32) -> 
     requires { ⌜ (checkedAt elements time ≡ Passed) × Within 200_000 rate ⌝ }
     ensures { λ r. ⌜ SinesAt (drifted angle rate (elapsedOf elements time)) r ⌝ }
 {
-    Sines::of(drift(angle, rate, elapsed(elements, time)))
+    Sines::of(wrapped(angle, drift(rate, elapsed(elements, time))))
 }

@@ -100,8 +100,8 @@ fn the_example_day() {
     picture.says(">Oscar-10: battery power and sunlight<");
     picture.says("day.labels, 1985-08-29 13:45 to 1985-08-30 13:43 UTC, 960 labels");
     for entry in [
-        "training (285)",
-        "test (209)",
+        "training (227)",
+        "test (267)",
         "withheld (466)",
         "shadow (87)",
         "missing (13)",

@@ -182,6 +182,39 @@ pub fn time(random: &mut Random, epoch: i64) -> i64 {
     }
 }
 
+/// Accepted elements and two times for them, of which the second is not the earlier. The first is
+/// next to a passage of the mean node, before the epoch or after it. Often the perigee drifts as fast
+/// as is accepted, either way, and the mean motion is the least.
+pub fn node_passage(random: &mut Random) -> (Elements, [i64; 2]) {
+    const TURN: f64 = 4_294_967_296.0;
+
+    let mut elements = accepted_elements(random);
+    if random.one_in(2) {
+        elements.perigee_rate = random.pick(&[-200_000, 200_000]);
+    }
+    if random.one_in(4) {
+        elements.mean_motion = 20_000_000;
+    }
+    let low = (elements.epoch - SPAN_MAX).max(TIME_MIN);
+    let high = (elements.epoch + SPAN_MAX).min(TIME_MAX);
+
+    // The mean argument of latitude at the epoch, and what it gains in a second.
+    let at_epoch = f64::from(elements.mean_anomaly) + f64::from(elements.argument_of_perigee);
+    let by_motion = f64::from(elements.mean_motion) * TURN / 8_640_000_000_000.0;
+    let by_drift = f64::from(elements.perigee_rate) * TURN / 3_600_000.0 / 86_400.0;
+    let gain = by_motion + by_drift;
+    let somewhere = (random.between(low, high) - elements.epoch) as f64;
+    let turns = ((at_epoch + somewhere * gain) / TURN).round();
+    let passage = elements.epoch + ((turns * TURN - at_epoch) / gain).floor() as i64;
+    let time = (passage + random.between(-1, 2)).clamp(low, high);
+
+    let later = match random.below(4) {
+        0 => random.between(time, high),
+        _ => time + random.between(0, 2),
+    };
+    (elements, [time, later.min(high)])
+}
+
 /// The bits of a volts or amperes number.
 pub fn reading_bits(random: &mut Random) -> u32 {
     let sign = (random.below(2) as u32) << 31;

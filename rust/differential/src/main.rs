@@ -51,7 +51,7 @@ fn main() -> ExitCode {
         return ExitCode::from(2);
     };
     println!("seed {seed}");
-    let subjects: [(&str, u64, Subject); 10] = [
+    let subjects: [(&str, u64, Subject); 11] = [
         ("sine", count, numbers::sine),
         ("kepler", count, numbers::kepler),
         ("position", count, numbers::position),
@@ -62,6 +62,7 @@ fn main() -> ExitCode {
         ("buffers", count / 100, buffers::lent),
         ("elements", count / 10, elements_files::elements),
         ("root", count, numbers::root),
+        ("revolution", count, numbers::revolution),
     ];
     let mut differences = 0;
     for (number, (name, rounds, compare)) in subjects.into_iter().enumerate() {

@@ -1,4 +1,4 @@
-//! Comparisons of sine, Kepler's equation, position, Sun, shade and the square root.
+//! Comparisons of sine, Kepler's equation, position, the revolution, Sun, shade and the square root.
 
 use reference::orbit::{Elements, Position};
 use reference::sun::Direction;
@@ -83,6 +83,18 @@ pub fn position(random: &mut Random, report: &mut Report) {
         })
         .map_err(|refusal| (refusal.number(), 0));
     report.outcomes(&(elements, time), library, reference);
+}
+
+/// The revolutions at two accepted times, and that the number does not fall.
+pub fn revolution(random: &mut Random, report: &mut Report) {
+    let (elements, times) = inputs::node_passage(random);
+    let library = times.map(|time| {
+        yurdelmiz::position(&library_elements(&elements), time).expect("accepted").revolution
+    });
+    let reference = times.map(|time| elements.state(time).expect("accepted").revolution);
+    let input = (elements, times);
+    report.equal(&input, "", library, reference);
+    report.equal(&input, "falls", library[1] < library[0], false);
 }
 
 pub fn sun(random: &mut Random, report: &mut Report) {

@@ -13,6 +13,9 @@ const SPAN_MAX: u64 = 31_622_400;
 /// n·Δ over this is in revolutions: 86,400 seconds a day, and 10^8 for the unit of n.
 const REVOLUTION: i64 = 8_640_000_000_000;
 
+/// A turn, in the unit of angles.
+const TURN: i64 = 1 << 32;
+
 /// Orbital elements, in document 01's units.
 #[derive(Clone, Copy, Debug, PartialEq, Eq)]
 pub struct Elements {
@@ -107,16 +110,19 @@ impl Elements {
         Ok(time - self.epoch)
     }
 
-    /// Revolution and mean anomaly ("Turns").
+    /// Revolution and mean anomaly ("Turns", "Revolution").
     fn turns(&self, elapsed: i64) -> (i32, Angle) {
         let product = i64::from(self.mean_motion) * elapsed;
         let whole = product.div_euclid(REVOLUTION);
         let rest = product.rem_euclid(REVOLUTION);
         let part = (rest << 17) / 263_671_875;
-        let sum = i64::from(self.mean_anomaly) + part;
-        let perigee_passed = sum >> 32;
-        let revolution = i64::from(self.epoch_revolution) + whole + perigee_passed;
-        (revolution as i32, sum as u32)
+        let anomaly = i64::from(self.mean_anomaly) + part;
+        let a = whole * TURN + part;
+        let b = drift(self.perigee_rate, elapsed);
+        let at_epoch = i64::from(self.mean_anomaly) + i64::from(self.argument_of_perigee);
+        let revolution = i64::from(self.epoch_revolution) + (at_epoch + a + b).div_euclid(TURN)
+            - at_epoch.div_euclid(TURN);
+        (revolution as i32, anomaly as u32)
     }
 
     /// State at `time` of elements that `check` accepts; refusal 8.
@@ -151,10 +157,14 @@ impl Elements {
     }
 }
 
-/// An angle after drifting at `rate` for `elapsed` seconds.
+/// The drift at `rate` over `elapsed` seconds, before wrapping.
+fn drift(rate: i32, elapsed: i64) -> i64 {
+    ((i64::from(rate) * elapsed) << 18).div_euclid(18_984_375)
+}
+
+/// An angle after drifting.
 fn drifted(angle: Angle, rate: i32, elapsed: i64) -> Angle {
-    let drift = ((i64::from(rate) * elapsed) << 18).div_euclid(18_984_375);
-    angle.wrapping_add(drift as u32)
+    angle.wrapping_add(drift(rate, elapsed) as u32)
 }
 
 /// The pair (u, v) turned by `angle`.

@@ -56,7 +56,7 @@ impl fmt::Display for Side {
 pub struct Label {
     /// The record's time.
     pub time: i64,
-    /// The number of the revolution.
+    /// The number of the revolution, counted from the mean ascending node.
     pub revolution: i32,
     /// The side of the revolution.
     pub side: Side,

@@ -20,7 +20,8 @@ pub struct Position {
 /// Where the satellite is at a time.
 #[derive(Clone, Copy, Debug, PartialEq, Eq)]
 pub struct State {
-    /// The number of the revolution.
+    /// The number of the revolution, counted from the mean ascending node: it turns where the mean
+    /// anomaly and the argument of perigee together pass a whole turn, not at the true crossing.
     pub revolution: i32,
     /// The eccentric anomaly, with its halvings.
     pub anomaly: EccentricAnomaly,

@@ -24,9 +24,6 @@ use Rattle.orbit.proofs.state_at.Tie as tie
 anomaly-held : (s : tie.Start) → s .args .elements .«mean_anomaly» < 2 ^ 32
 anomaly-held s = omega arith
 
-rate-fits : (s : tie.Start) → SFits w32 (s .args .elements .«perigee_rate»)
-rate-fits s = search needs
-
 elements-accepted : (s : tie.Start) → Accepted (s .args .elements)
 elements-accepted s = accepted-at (s .args .elements) (s .args .time) (s .pre .0) .elements
 
@@ -41,33 +38,29 @@ revolution-fits : (c : tie.After-phase-at) → SFits w32 (c .phase-at .result .r
 revolution-fits c = search needs
 
 -- ---- the argument of perigee
-drift-at-requires : tie.Need-drift-at-requires
-drift-at-requires c κs =
-    let a = elements-accepted (c .before .before) in search needs
+of-requires : tie.Need-of-requires
+of-requires c κs = search needs
 
-perigee-at : (c : tie.After-drift-at) → let a = c .before .before .before .args in SinesAt (perigeeAt (a .elements) (a .time)) (c .drift-at .result)
-unfolding perigeeAt
-perigee-at c =
-    let s = c .before .before .before in
-    rw (toZ-ofZ (s .fits .time), toZ-ofZ (rate-fits s)) at (c .drift-at .ensures)
+perigee-at : (c : tie.After-of) → let a = c .before .before .args in SinesAt (perigeeAt (a .elements) (a .time)) (c .of .result)
+perigee-at c = rw (phase-at (c .before) .perigee-is) at (c .of .ensures)
 
 -- ---- the eccentric anomaly
 abbrev start : tie.After-eccentric-anomaly → tie.Start
-start c = c .before .before .before .before
+start c = c .before .before .before
 
 eccentric-anomaly-requires : tie.Need-eccentric-anomaly-requires
-eccentric-anomaly-requires c κs = elements-accepted (c .before .before .before) .eccentricity-le
+eccentric-anomaly-requires c κs = elements-accepted (c .before .before) .eccentricity-le
 
 anomaly-at : (c : tie.After-eccentric-anomaly) → let a = start c .args in c .eccentric-anomaly .result ≡ anomalyAt (a .elements) (a .time)
 anomaly-at c =
     anomaly-is (start c .args .elements) (start c .args .time) _
-    (subst (λ (M : ℕ). AnomalyAt (start c .args .elements .eccentricity) M (c .eccentric-anomaly .result)) (phase-at (c .before .before .before) .anomaly-is) (c .eccentric-anomaly .ensures))
+    (subst (λ (M : ℕ). AnomalyAt (start c .args .elements .eccentricity) M (c .eccentric-anomaly .result)) (phase-at (c .before .before) .anomaly-is) (c .eccentric-anomaly .ensures))
 
-of-requires : tie.Need-of-requires
-of-requires c κs = search needs
+of-requires-2 : tie.Need-of-requires-2
+of-requires-2 c κs = search needs
 
-sines-at : (c : tie.After-of) → let a = start (c .before) .args in SinesAt (anomalyAt (a .elements) (a .time) .angle) (c .of .result)
-sines-at c = subst (λ (r : Anomaly). SinesAt (r .angle) (c .of .result)) (anomaly-at (c .before)) (c .of .ensures)
+sines-at : (c : tie.After-of2) → let a = start (c .before) .args in SinesAt (anomalyAt (a .elements) (a .time) .angle) (c .of2 .result)
+sines-at c = subst (λ (r : Anomaly). SinesAt (r .angle) (c .of2 .result)) (anomaly-at (c .before)) (c .of2 .ensures)
 
 -- its cosine and its sine, as the machine holds them
 cosine-is : {a : ℕ} {r : Sines} → SinesAt a r → toZ w64 (ofZ w64 (r .cosine)) ≡ C a
@@ -82,14 +75,14 @@ in-plane-requires c κs =
     let s = start (c .before .before .before) in
     let a = elements-accepted s in
     let m = minor-le (s .args .elements .eccentricity) in
-    let E = c .before .before .of .ensures .sines-of in
+    let E = c .before .before .of2 .ensures .sines-of in
     search (needs, a, m, E, s .pre .1)
 
 celestial-requires : tie.Need-celestial-requires
 celestial-requires c κs =
     let f = c .before .before .before in
     let p = start (f .before) .pre in
-    search (needs, c .in-plane .ensures, f .before .before .drift-at .ensures, p .1, p .2)
+    search (needs, c .in-plane .ensures, f .before .before .of .ensures, p .1, p .2)
 
 radius-requires : tie.Need-radius-requires
 radius-requires c κs =
@@ -113,7 +106,7 @@ returns c =
     let s = start n in
     let el = s .args .elements in
     let t = s .args .time in
-    let p = n .before .before .before in
+    let p = n .before .before in
     let phase = phase-at p in
     let ρ = c .before .radius in
     state-at el t (anomaly-held s) (s .pre .0)
@@ -125,9 +118,9 @@ state-at-spec =
     tie.close
     (tie.spec
     phase-at-requires
-    drift-at-requires
-    eccentric-anomaly-requires
     of-requires
+    eccentric-anomaly-requires
+    of-requires-2
     in-plane-requires
     celestial-requires
     radius-requires

@@ -26,7 +26,7 @@ const GRID: &str = "stroke=\"#22262b\" stroke-opacity=\"0.11\"";
 const MIDNIGHT: &str = "stroke=\"#22262b\" stroke-opacity=\"0.25\"";
 const ZERO: &str = "stroke=\"#6b7280\"";
 const AXIS: &str = "stroke=\"#22262b\"";
-const PERIGEE: &str = "stroke=\"#6b7280\" stroke-dasharray=\"3 3\"";
+const NODE_PASSAGE: &str = "stroke=\"#6b7280\" stroke-dasharray=\"3 3\"";
 
 const MIDDLE: Font = Font { anchor: "middle", ..Font::PLAIN };
 const AT_END: Font = Font { anchor: "end", ..Font::PLAIN };
@@ -233,8 +233,8 @@ impl<'a> Day<'a> {
             let width = right - left;
             drawing.rect(left, UPPER.top - 7.0, (width - 1.0).max(1.5), 5.0, colour(side));
             if run.meets && width > 20.0 {
-                drawing.line((left, UPPER.top - 7.0), (left, UPPER.bottom), PERIGEE);
-                drawing.line((left, LOWER.top), (left, LOWER.bottom), PERIGEE);
+                drawing.line((left, UPPER.top - 7.0), (left, UPPER.bottom), NODE_PASSAGE);
+                drawing.line((left, LOWER.top), (left, LOWER.bottom), NODE_PASSAGE);
             }
             let font = Font { size: 12.0, colour: colour(side), ..MIDDLE };
             let texts = [format!("revolution {revolution}"), revolution.to_string()];

@@ -20,7 +20,7 @@ pub const TELEMETRY: &[u8] = include_bytes!("../../../../examples/oscar10/teleme
 /// Its labels, which are those of the independent reference.
 pub const LABELS: &[u8] = include_bytes!("../../../../tests/command/oscar10.labels");
 
-pub const LABELLED: &str = "labelled 960 training 285 test 209\n";
+pub const LABELLED: &str = "labelled 960 training 227 test 267\n";
 
 /// The example's elements, one a line.
 pub fn elements() -> String {

@@ -1,8 +1,13 @@
 -- `orbit::turns::drift_at` meets its contract. Assumes nothing.
 use borrow.Author.Needs.{needs}
-use mathlib.Core.Path.{_∙_}
+use mathlib.Core.Path.{_≡_, _∙_}
+use lib.Dec.{lit≤}
+use mir.Syntax.{w64}
+use mir.Val.{toZ, ofZ}
 use mir.Facts.{toZ-ofZ}
+use Rattle.integer.proofs.Bounds.{within-more}
 use Rattle.integer.proofs.TwosComplement.{read-back}
+use Rattle.orbit.specs.Turns.{elapsedOf, drift, drifted}
 use Rattle.orbit.proofs.turns.drift_at.Statement.{statement}
 use Rattle.orbit.proofs.turns.drift_at.Tie as tie
 
@@ -12,16 +17,25 @@ elapsed-requires c κs = search needs
 drift-requires : tie.Need-drift-requires
 drift-requires c κs = search needs
 
+-- the drift, as the machine holds it
+drift-is : (c : tie.After-drift) → let a = c .before .before .args in toZ w64 (ofZ w64 (c .drift .result)) ≡ drift (a .rate) (elapsedOf (a .elements) (a .time))
+drift-is c =
+    let s = c .before .before in
+    let e = c .before .elapsed in
+    let elapsed = read-back (e .result) (e .ok) ∙ rw (toZ-ofZ (s .fits .time)) at (e .ensures .is) in
+    read-back (c .drift .result) (c .drift .ok) ∙ rw (toZ-ofZ (s .fits .rate), elapsed) at (c .drift .ensures .0)
+
+wrapped-requires : tie.Need-wrapped-requires
+wrapped-requires c κs =
+    rw (read-back (c .drift .result) (c .drift .ok)) (within-more (c .drift .ensures .1) (lit≤ tt))
+
 of-requires : tie.Need-of-requires
 of-requires c κs = search needs
 
 returns : tie.Need-returns
-returns c =
-    let s = c .before .before .before in
-    let e = c .before .before .elapsed in
-    let elapsed = read-back (e .result) (e .ok) ∙ rw (toZ-ofZ (s .fits .time)) at (e .ensures .is) in
-    let angle = rw (toZ-ofZ (s .fits .rate), elapsed) at (c .before .drift .ensures) in
-    rw angle at (c .of .ensures)
+unfolding drifted
+returns c = rw (rw (drift-is (c .before .before)) at (c .before .wrapped .ensures)) at (c .of .ensures)
 
 pub drift-at-spec : {M : Type 1} → statement M
-drift-at-spec = tie.close (tie.spec elapsed-requires drift-requires of-requires returns)
+drift-at-spec =
+    tie.close (tie.spec elapsed-requires drift-requires wrapped-requires of-requires returns)

@@ -1,0 +1,158 @@
+-- The revolution: its bounds, that it is the epoch's at the epoch, that it turns where the mean argument of latitude passes the node, and
+-- that it never falls. Assumes nothing.
+use mathlib.Core.Path.{_≡_, refl, sym, _∙_, ap}
+use Prim.Native.Nat.{ℕ, _+_, _*_, _-_, _/_, _%_, _^_, _≤_, _<_}
+use native.Mathlib.Nat.{add-zero, mul-zero, mul-le-mul-right}
+use native.Mathlib.Omega.{arith}
+use lib.Dec.{lit<, lit≤}
+use lib.IntN.{ℤ, pos, _+ℤ_, _-ℤ_, _*ℤ_, +ℤ-invr, *ℤ-zero}
+use lib.Signed.{_≤ℤ_}
+use Rattle.integer.specs.Bound.{Within}
+use Rattle.integer.specs.Division.{floorZ, modZ}
+use Rattle.integer.proofs.Bounds.{within-pos, within-add, within-more}
+use Rattle.integer.proofs.Division.{floor-mono, floor-unique, parts-floor}
+use Rattle.integer.proofs.Parts.{up, dn, signed, parts-add, parts-sub, parts-scale, parts-later, parts-within, within-parts, le-parts, parts-le}
+use Rattle.orbit.specs.declared.elements.Elements.{Elements}
+use Rattle.orbit.specs.Revolution.{latitudeOf, gain, nodePassages, revolution, NeverFalls}
+use Rattle.orbit.specs.Placement.{perigeeAt}
+use Rattle.orbit.specs.Turns.{elapsedOf, advance, meanAnomaly, drift, drifted}
+use Rattle.orbit.proofs.Accepted.{Accepted, AcceptedAt, accepted-at}
+use Rattle.orbit.proofs.AnomalyAndDrift.{advance-floor, advance-within, anomaly-wraps, drift-within}
+
+-- ---- bounds
+-- as many passages at most as whole turns are gained
+pub passages-within : (c u : ℕ) (x : ℤ) → Within (c * 2 ^ 32) x → Within c (nodePassages u x)
+unfolding nodePassages
+passages-within c u x h =
+    let z = pos u +ℤ x in
+    let s = parts-add (pos u) x in
+    let b = parts-within x h in
+    let above = floor-mono z (pos u) (2 ^ 32) 0 c (lit< tt) (omega (arith, s, b .0)) in
+    let below = floor-mono (pos u) z (2 ^ 32) 0 c (lit< tt) (omega (arith, s, b .1)) in
+    let d = parts-sub (floorZ z (2 ^ 32)) (pos (u / 2 ^ 32)) in
+    within-parts c (floorZ z (2 ^ 32) -ℤ pos (u / 2 ^ 32)) (omega (arith, d)) (omega (arith, d))
+
+module _ (el : Elements) (t : ℤ) (a : AcceptedAt el t) where
+  pub gain-within : Within (10_000 * 2 ^ 32) (gain el t)
+  unfolding gain
+  gain-within =
+      within-more
+      (within-add (advance-within _ _ (a .elements .motion-le) (a .elapsed)) (drift-within _ _ (a .elements .perigee-rate) (a .elapsed))) (lit≤ tt)
+
+  pub revolution-within : Within 109_999 (revolution el t)
+  unfolding revolution
+  revolution-within =
+      within-more (within-add (within-pos (a .elements .revolution-le)) (passages-within 10_000 (latitudeOf el) (gain el t) gain-within)) (lit≤ tt)
+
+-- ---- the number never falls
+module _ (el : Elements) (a : Accepted el) (t t' : ℤ) (k : ℕ) (later : up t' + dn t ≡ up t + (dn t' + k)) where
+  abbrev Δ : ℤ
+  Δ = elapsedOf el t
+
+  abbrev Δ' : ℤ
+  Δ' = elapsedOf el t'
+
+  abbrev n : ℕ
+  n = el .«mean_motion»
+
+  abbrev rate : ℤ
+  rate = el .«perigee_rate»
+
+  elapsed-later : up Δ' + dn Δ ≡ up Δ + (dn Δ' + k)
+  elapsed-later = omega (arith, parts-sub t (el .epoch), parts-sub t' (el .epoch))
+
+  -- A rises by at least 9,942 a second
+  advance-rises : up (advance n Δ) + (dn (advance n Δ') + 9_942 * k) ≤ up (advance n Δ') + dn (advance n Δ)
+  advance-rises =
+      let z = pos n *ℤ Δ in
+      let z' = pos n *ℤ Δ' in
+      let s = parts-scale z (2 ^ 17) in
+      let s' = parts-scale z' (2 ^ 17) in
+      let least : 20_000_000 * k ≤ n * k = mul-le-mul-right k (a .motion-ge) in
+      rw (advance-floor n Δ, advance-floor n Δ')
+      (omega (
+        arith,
+        floor-mono (z *ℤ pos (2 ^ 17)) (z' *ℤ pos (2 ^ 17)) 263_671_875 (9_942 * k) 0 (lit< tt)
+            (omega (arith, s .0, s .1, s' .0, s' .1, parts-later (pos n) Δ Δ' k elapsed-later)),
+      ))
+
+  -- B falls by at most 2,762 a second
+  drift-falls : up (drift rate Δ) + dn (drift rate Δ') ≤ up (drift rate Δ') + (dn (drift rate Δ) + 2_762 * k)
+  unfolding drift
+  drift-falls =
+      let z = rate *ℤ Δ in
+      let z' = rate *ℤ Δ' in
+      let s = parts-scale z (2 ^ 18) in
+      let s' = parts-scale z' (2 ^ 18) in
+      let most : dn rate * k ≤ 200_000 * k = mul-le-mul-right k (parts-within rate (a .perigee-rate) .1) in
+      omega (
+        arith,
+        floor-mono (z *ℤ pos (2 ^ 18)) (z' *ℤ pos (2 ^ 18)) 18_984_375 0 (2_762 * k) (lit< tt)
+            (omega (arith, s .0, s .1, s' .0, s' .1, parts-later rate Δ Δ' k elapsed-later)),
+      )
+
+  -- and so A + B rises
+  gain-rises : up (gain el t) + dn (gain el t') ≤ up (gain el t') + dn (gain el t)
+  unfolding gain
+  gain-rises =
+      omega (arith, advance-rises, drift-falls, parts-add (advance n Δ) (drift rate Δ), parts-add (advance n Δ') (drift rate Δ'))
+
+-- where a gain is not below another, nor are the passages
+passages-rise : (u : ℕ) (x x' : ℤ) → up x + dn x' ≤ up x' + dn x
+    → up (nodePassages u x) + dn (nodePassages u x') ≤ up (nodePassages u x') + dn (nodePassages u x)
+unfolding nodePassages
+passages-rise u x x' h =
+    let z = pos u +ℤ x in
+    let z' = pos u +ℤ x' in
+    let m = floor-mono z z' (2 ^ 32) 0 0 (lit< tt) (omega (arith, parts-add (pos u) x, parts-add (pos u) x')) in
+    omega (arith, m, parts-sub (floorZ z (2 ^ 32)) (pos (u / 2 ^ 32)), parts-sub (floorZ z' (2 ^ 32)) (pos (u / 2 ^ 32)))
+
+pub never-falls : NeverFalls
+unfolding revolution
+never-falls el t t' passed passed' le =
+    let a = accepted-at el t passed .elements in
+    let k = (up t' + dn t) - (up t + dn t') in
+    let order = parts-le t t' le in
+    let rise = gain-rises el a t t' k (omega arith) in
+    let u = latitudeOf el in
+    let first = pos (el .«epoch_revolution») in
+    let p = nodePassages u (gain el t) in
+    let p' = nodePassages u (gain el t') in
+    omega (signed, passages-rise u (gain el t) (gain el t') rise, parts-add first p, parts-add first p')
+
+-- ---- what the definition counts
+-- the revolution of the epoch, at the epoch
+pub at-epoch : (el : Elements) → revolution el (el .epoch) ≡ pos (el .«epoch_revolution»)
+unfolding revolution gain drift nodePassages
+at-epoch el =
+    let n = el .«mean_motion» in
+    let u = latitudeOf el in
+    rw (+ℤ-invr (el .epoch), advance-floor n (pos 0), mul-zero n, *ℤ-zero (el .«perigee_rate»), add-zero u, +ℤ-invr (pos (u / 2 ^ 32)), add-zero (el .«epoch_revolution»))
+
+-- what A and B leave of a turn is the mean argument of latitude of the state: it is counted where the mean anomaly and the argument of perigee
+-- together pass a whole turn
+pub latitude-at : (el : Elements) (t : ℤ) → el .«mean_anomaly» < 2 ^ 32
+    → modZ (pos (latitudeOf el) +ℤ gain el t) (2 ^ 32) ≡ (meanAnomaly el t + perigeeAt el t) % 2 ^ 32
+unfolding gain perigeeAt drifted
+latitude-at el t held =
+    let A = advance (el .«mean_motion») (elapsedOf el t) in
+    let B = drift (el .«perigee_rate») (elapsedOf el t) in
+    let M0 = pos (el .«mean_anomaly») in
+    let ω = pos (el .«argument_of_perigee») in
+    let q = floorZ (M0 +ℤ A) (2 ^ 32) in
+    let q' = floorZ (ω +ℤ B) (2 ^ 32) in
+    let sum = modZ (M0 +ℤ A) (2 ^ 32) + modZ (ω +ℤ B) (2 ^ 32) in
+    let carry = pos (sum / 2 ^ 32) in
+    rw (anomaly-wraps el t held)
+    (floor-unique (pos (latitudeOf el) +ℤ (A +ℤ B)) (q +ℤ q' +ℤ carry) (2 ^ 32) (sum % 2 ^ 32) (omega arith)
+    (omega (
+      arith,
+      parts-add (pos (latitudeOf el)) (A +ℤ B),
+      parts-add A B,
+      parts-add M0 A,
+      parts-add ω B,
+      parts-add (q +ℤ q') carry,
+      parts-add q q',
+      parts-floor (M0 +ℤ A) (2 ^ 32) (lit< tt),
+      parts-floor (ω +ℤ B) (2 ^ 32) (lit< tt),
+    )) .1)
