@@ -4,11 +4,12 @@ use Prim.Native.Nat.{ℕ, suc, _+_, _*_, _-_, _/_, _%_, _≤_, _<_}
 use native.Mathlib.Decide.{decLe}
 use native.Mathlib.Nat.{zero-mul, suc-mul, add-mul, mod-lt, div-add-mod', lt-of-not-le, mul-le-mul-right}
 use native.Mathlib.Omega.{arith}
-use lib.IntN.{ℤ, pos, negsuc}
+use lib.IntN.{ℤ, pos, negsuc, _*ℤ_}
 use Rattle.integer.specs.Bound.{Within}
 use Rattle.integer.specs.Division.{floorZ, modZ}
 use Rattle.integer.proofs.Bounds.{div-mono}
-use Rattle.integer.proofs.Parts.{up, dn, eq-parts}
+use Rattle.integer.proofs.Parts.{up, dn, eq-parts, parts-scale, parts-later}
+use Rattle.integer.proofs.Ring.{ring}
 
 pub mod-below : (z : ℤ) (d : ℕ) → 0 < d → modZ z d < d
 mod-below (pos a) d h = mod-lt a h
@@ -34,6 +35,17 @@ floor-mono z z' d i j h le =
     let q' = floorZ z' d in
     quotient-le (up q + (dn q' + i)) (up q' + (dn q + j)) d (modZ z d) (modZ z' d) (mod-below z' d h)
     (simp add-mul (omega (arith, parts-floor z d h, parts-floor z' d h)))
+
+-- r·z·s / d, down, where z grows by k: with r·s at least (i - j)·d it grows by at least (i - j)·k
+pub floor-later : (r z z' : ℤ) (k s d i j : ℕ) → 0 < d → up z' + dn z ≡ up z + (dn z' + k) → i * d + dn r * s ≤ j * d + up r * s
+    → up (floorZ (r *ℤ z *ℤ pos s) d) + (dn (floorZ (r *ℤ z' *ℤ pos s) d) + i * k) ≤ up (floorZ (r *ℤ z' *ℤ pos s) d) + (dn (floorZ (r *ℤ z *ℤ pos s) d) + j * k)
+floor-later r z z' k s d i j h later rate =
+    let p = parts-scale (r *ℤ z) s in
+    let p' = parts-scale (r *ℤ z') s in
+    let grown = ap (λ (n : ℕ). n * s) (parts-later r z z' k later) in
+    let enough = mul-le-mul-right k rate in
+    floor-mono (r *ℤ z *ℤ pos s) (r *ℤ z' *ℤ pos s) d (i * k) (j * k) h
+    (rw (p .0, p .1, p' .0, p' .1) (simp ring (omega (arith, simp ring at grown, simp ring at enough))))
 
 -- q and r are the quotient and the remainder where z = q·d + r and r is below d
 pub floor-unique : (z q : ℤ) (d r : ℕ) → r < d → up z + dn q * d ≡ up q * d + (r + dn z) → (floorZ z d ≡ q) × (modZ z d ≡ r)

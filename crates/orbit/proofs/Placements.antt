@@ -3,6 +3,7 @@ use mathlib.Core.Path.{_≡_, refl, sym, _∙_, subst}
 use Prim.Native.Nat.{ℕ, _^_, _<_}
 use native.Mathlib.Omega.{arith}
 use lib.IntN.{ℤ}
+use lib.Signed.{_≤ℤ_}
 use Rattle.trig.specs.Sine.{C}
 use Rattle.trig.proofs.Quarters.{S-within, C-within}
 use Rattle.refusal.specs.declared.Refusal.{Refusal}
@@ -24,8 +25,9 @@ use Rattle.orbit.specs.Revolution.{revolution}
 use Rattle.orbit.specs.Time.{checkedAt}
 use Rattle.orbit.specs.Turns.{meanAnomaly}
 use Rattle.orbit.proofs.Accepted.{AcceptedAt, accepted-at}
-use Rattle.orbit.proofs.Distances.{minor-le, plane-box, radius-between}
 use Rattle.orbit.proofs.AnomalyAndDrift.{mean-anomaly-below}
+use Rattle.orbit.proofs.Distances.{minor-le, plane-box, radius-between}
+use Rattle.orbit.proofs.Revolution.{never-falls}
 
 module _ (el : Elements) (t : ℤ) where
   -- a state by its fields
@@ -75,10 +77,17 @@ module _ (el : Elements) (t : ℤ) where
           let p = placement-refused r e ∙ given in
           let z : _≡_ {A = ℕ} 0 1 = cc in absurd (omega arith)
 
+  -- a state that was given is that of the time
+  placed-is : {s : State} → placement el t ≡ Placed s → s ≡ stateOf el t
+  placed-is given = let q = placement-placed (placed-passed given) ∙ given in cc
+
   -- a state that was given: what it is, k(E) ≤ M < k(E + 1), demand 3, the radius between perigee and apogee, and the bounds of the position
   pub placed-state : el .«mean_anomaly» < 2 ^ 32 → (s : State) → placement el t ≡ Placed s → StateAt el t s
-  placed-state held s given =
-      let passed = placed-passed given in
-      let q = placement-placed passed ∙ given in
-      let same : s ≡ stateOf el t = cc in
-      state-at held passed same
+  placed-state held s given = state-at held (placed-passed given) (placed-is given)
+
+-- of two states that were given for the same elements, the later has no lower revolution
+pub later-placed : (el : Elements) (t t' : ℤ) {s s' : State} → placement el t ≡ Placed s → placement el t' ≡ Placed s' → t ≤ℤ t' → s .revolution ≤ℤ s' .revolution
+unfolding stateOf
+later-placed el t t' given given' le =
+    rw (placed-is el t given, placed-is el t' given')
+    (never-falls el t t' (placed-passed el t given) (placed-passed el t' given') le)

@@ -1,48 +1,22 @@
--- The revolution: its bounds, that it is the epoch's at the epoch, that it turns where the mean argument of latitude passes the node, and
--- that it never falls. Assumes nothing.
-use mathlib.Core.Path.{_≡_, refl, sym, _∙_, ap}
+-- The revolution: that it never falls, its bounds, that it is the epoch's at the epoch, and that it turns where the mean argument of
+-- latitude passes the node. Assumes nothing.
+use mathlib.Core.Path.{_≡_}
 use Prim.Native.Nat.{ℕ, _+_, _*_, _-_, _/_, _%_, _^_, _≤_, _<_}
-use native.Mathlib.Nat.{add-zero, mul-zero, mul-le-mul-right}
+use native.Mathlib.Nat.{add-zero, mul-zero}
 use native.Mathlib.Omega.{arith}
 use lib.Dec.{lit<, lit≤}
 use lib.IntN.{ℤ, pos, _+ℤ_, _-ℤ_, _*ℤ_, +ℤ-invr, *ℤ-zero}
-use lib.Signed.{_≤ℤ_}
 use Rattle.integer.specs.Bound.{Within}
 use Rattle.integer.specs.Division.{floorZ, modZ}
 use Rattle.integer.proofs.Bounds.{within-pos, within-add, within-more}
-use Rattle.integer.proofs.Division.{floor-mono, floor-unique, parts-floor}
-use Rattle.integer.proofs.Parts.{up, dn, signed, parts-add, parts-sub, parts-scale, parts-later, parts-within, within-parts, le-parts, parts-le}
+use Rattle.integer.proofs.Division.{floor-mono, floor-later, floor-unique, parts-floor}
+use Rattle.integer.proofs.Parts.{up, dn, signed, parts-add, parts-sub, parts-within, within-parts, parts-le}
 use Rattle.orbit.specs.declared.elements.Elements.{Elements}
 use Rattle.orbit.specs.Revolution.{latitudeOf, gain, nodePassages, revolution, NeverFalls}
 use Rattle.orbit.specs.Placement.{perigeeAt}
 use Rattle.orbit.specs.Turns.{elapsedOf, advance, meanAnomaly, drift, drifted}
 use Rattle.orbit.proofs.Accepted.{Accepted, AcceptedAt, accepted-at}
 use Rattle.orbit.proofs.AnomalyAndDrift.{advance-floor, advance-within, anomaly-wraps, drift-within}
-
--- ---- bounds
--- as many passages at most as whole turns are gained
-pub passages-within : (c u : ℕ) (x : ℤ) → Within (c * 2 ^ 32) x → Within c (nodePassages u x)
-unfolding nodePassages
-passages-within c u x h =
-    let z = pos u +ℤ x in
-    let s = parts-add (pos u) x in
-    let b = parts-within x h in
-    let above = floor-mono z (pos u) (2 ^ 32) 0 c (lit< tt) (omega (arith, s, b .0)) in
-    let below = floor-mono (pos u) z (2 ^ 32) 0 c (lit< tt) (omega (arith, s, b .1)) in
-    let d = parts-sub (floorZ z (2 ^ 32)) (pos (u / 2 ^ 32)) in
-    within-parts c (floorZ z (2 ^ 32) -ℤ pos (u / 2 ^ 32)) (omega (arith, d)) (omega (arith, d))
-
-module _ (el : Elements) (t : ℤ) (a : AcceptedAt el t) where
-  pub gain-within : Within (10_000 * 2 ^ 32) (gain el t)
-  unfolding gain
-  gain-within =
-      within-more
-      (within-add (advance-within _ _ (a .elements .motion-le) (a .elapsed)) (drift-within _ _ (a .elements .perigee-rate) (a .elapsed))) (lit≤ tt)
-
-  pub revolution-within : Within 109_999 (revolution el t)
-  unfolding revolution
-  revolution-within =
-      within-more (within-add (within-pos (a .elements .revolution-le)) (passages-within 10_000 (latitudeOf el) (gain el t) gain-within)) (lit≤ tt)
 
 -- ---- the number never falls
 module _ (el : Elements) (a : Accepted el) (t t' : ℤ) (k : ℕ) (later : up t' + dn t ≡ up t + (dn t' + k)) where
@@ -64,32 +38,15 @@ module _ (el : Elements) (a : Accepted el) (t t' : ℤ) (k : ℕ) (later : up t'
   -- A rises by at least 9,942 a second
   advance-rises : up (advance n Δ) + (dn (advance n Δ') + 9_942 * k) ≤ up (advance n Δ') + dn (advance n Δ)
   advance-rises =
-      let z = pos n *ℤ Δ in
-      let z' = pos n *ℤ Δ' in
-      let s = parts-scale z (2 ^ 17) in
-      let s' = parts-scale z' (2 ^ 17) in
-      let least : 20_000_000 * k ≤ n * k = mul-le-mul-right k (a .motion-ge) in
       rw (advance-floor n Δ, advance-floor n Δ')
-      (omega (
-        arith,
-        floor-mono (z *ℤ pos (2 ^ 17)) (z' *ℤ pos (2 ^ 17)) 263_671_875 (9_942 * k) 0 (lit< tt)
-            (omega (arith, s .0, s .1, s' .0, s' .1, parts-later (pos n) Δ Δ' k elapsed-later)),
-      ))
+      (omega (arith, floor-later (pos n) Δ Δ' k (2 ^ 17) 263_671_875 9_942 0 (lit< tt) elapsed-later (omega (arith, a .motion-ge))))
 
   -- B falls by at most 2,762 a second
   drift-falls : up (drift rate Δ) + dn (drift rate Δ') ≤ up (drift rate Δ') + (dn (drift rate Δ) + 2_762 * k)
   unfolding drift
   drift-falls =
-      let z = rate *ℤ Δ in
-      let z' = rate *ℤ Δ' in
-      let s = parts-scale z (2 ^ 18) in
-      let s' = parts-scale z' (2 ^ 18) in
-      let most : dn rate * k ≤ 200_000 * k = mul-le-mul-right k (parts-within rate (a .perigee-rate) .1) in
-      omega (
-        arith,
-        floor-mono (z *ℤ pos (2 ^ 18)) (z' *ℤ pos (2 ^ 18)) 18_984_375 0 (2_762 * k) (lit< tt)
-            (omega (arith, s .0, s .1, s' .0, s' .1, parts-later rate Δ Δ' k elapsed-later)),
-      )
+      let slow = parts-within rate (a .perigee-rate) .1 in
+      omega (arith, floor-later rate Δ Δ' k (2 ^ 18) 18_984_375 0 2_762 (lit< tt) elapsed-later (omega arith))
 
   -- and so A + B rises
   gain-rises : up (gain el t) + dn (gain el t') ≤ up (gain el t') + dn (gain el t)
@@ -119,6 +76,31 @@ never-falls el t t' passed passed' le =
     let p = nodePassages u (gain el t) in
     let p' = nodePassages u (gain el t') in
     omega (signed, passages-rise u (gain el t) (gain el t') rise, parts-add first p, parts-add first p')
+
+-- ---- bounds
+-- as many passages at most as whole turns are gained
+pub passages-within : (c u : ℕ) (x : ℤ) → Within (c * 2 ^ 32) x → Within c (nodePassages u x)
+unfolding nodePassages
+passages-within c u x h =
+    let z = pos u +ℤ x in
+    let s = parts-add (pos u) x in
+    let b = parts-within x h in
+    let above = floor-mono z (pos u) (2 ^ 32) 0 c (lit< tt) (omega (arith, s, b .0)) in
+    let below = floor-mono (pos u) z (2 ^ 32) 0 c (lit< tt) (omega (arith, s, b .1)) in
+    let d = parts-sub (floorZ z (2 ^ 32)) (pos (u / 2 ^ 32)) in
+    within-parts c (floorZ z (2 ^ 32) -ℤ pos (u / 2 ^ 32)) (omega (arith, d)) (omega (arith, d))
+
+module _ (el : Elements) (t : ℤ) (a : AcceptedAt el t) where
+  pub gain-within : Within (10_000 * 2 ^ 32) (gain el t)
+  unfolding gain
+  gain-within =
+      within-more
+      (within-add (advance-within _ _ (a .elements .motion-le) (a .elapsed)) (drift-within _ _ (a .elements .perigee-rate) (a .elapsed))) (lit≤ tt)
+
+  pub revolution-within : Within 109_999 (revolution el t)
+  unfolding revolution
+  revolution-within =
+      within-more (within-add (within-pos (a .elements .revolution-le)) (passages-within 10_000 (latitudeOf el) (gain el t) gain-within)) (lit≤ tt)
 
 -- ---- what the definition counts
 -- the revolution of the epoch, at the epoch

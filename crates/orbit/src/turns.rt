@@ -3,12 +3,14 @@
 // time that passed the checks. Within a year's time of the epoch A has less than 9,000 turns and a
 // drift less than 1,000, so that every sum of theirs is below 2^46 and fits an i64.
 use crate::elements::Elements;
+use integer::FloorQuotient;
 use trig::Sines;
 use trig::TURN;
 ghost use mathlib.Core.Path.{_≡_};
-ghost use Prim.Native.Nat.{_+_, _*_, _≤_, _^_};
+ghost use Prim.Native.Nat.{_+_, _*_, _≤_, _<_, _^_};
 ghost use lib.IntN.{pos, _+ℤ_};
 ghost use Rattle.integer.specs.Bound.{Within};
+ghost use Rattle.integer.specs.Contract.{FloorDivided};
 ghost use Rattle.integer.specs.Division.{modZ};
 ghost use Rattle.trig.specs.Contract.{SinesAt};
 ghost use Rattle.orbit.specs.declared.elements.Verdict.the-variants.{Passed};
@@ -51,12 +53,19 @@ fn drift(rate: i32, elapsed: i64) -> i64
     integer::floor_div((rate as i64) * elapsed * 262_144, 18_984_375).quotient
 }
 
-// An angle that gained some turns.
+// An angle, or the sum of two, that gained some turns: its whole turns, and the angle that is left.
+fn turned(angle: u64, gained: i64) -> FloorQuotient
+    requires { ⌜ (angle < 2 ^ 33) × Within (10_000 * 2 ^ 32) gained ⌝ }
+    ensures { λ r. ⌜ FloorDivided (pos angle +ℤ gained) (2 ^ 32) r ⌝ }
+{
+    integer::floor_div(angle as i64 + gained, TURN)
+}
+
 fn wrapped(angle: u32, gained: i64) -> u32
     requires { ⌜ Within (10_000 * 2 ^ 32) gained ⌝ }
     ensures { λ r. ⌜ r ≡ modZ (pos angle +ℤ gained) (2 ^ 32) ⌝ }
 {
-    integer::floor_div(angle as i64 + gained, TURN).remainder as u32
+    turned(angle as u64, gained).remainder as u32
 }
 
 // The number of the revolution, where that of the epoch is the first and the mean argument of latitude
@@ -66,8 +75,7 @@ fn revolution(first: u32, mean_anomaly: u32, argument_of_perigee: u32, gained: i
     ensures { λ r. ⌜ r ≡ pos first +ℤ nodePassages («mean_anomaly» + «argument_of_perigee») gained ⌝ }
 {
     let latitude = mean_anomaly as u64 + argument_of_perigee as u64;
-    let turns = integer::floor_div(latitude as i64 + gained, TURN).quotient;
-    let passages = turns - (latitude / TURN) as i64;
+    let passages = turned(latitude, gained).quotient - (latitude / TURN) as i64;
     (first as i64 + passages) as i32
 }
 

@@ -10,7 +10,7 @@ use mir.Val.{SFits, toZ, ofZ}
 use mir.Facts.{toZ-ofZ, toZ-pos}
 use Rattle.integer.specs.Bound.{Within}
 use Rattle.integer.specs.Division.{floorZ, modZ}
-use Rattle.integer.proofs.Bounds.{within-pos, within-mul, within-more, sfits-within}
+use Rattle.integer.proofs.Bounds.{within-pos, within-mul, sfits-within}
 use Rattle.integer.proofs.Division.{within-floor, mod-below}
 use Rattle.orbit.specs.Turns.{wholeTurns, partTurn, advance}
 use Rattle.orbit.proofs.AnomalyAndDrift.{advance-within}

@@ -68,16 +68,24 @@ wrapped-requires-2 : tie.Need-wrapped-requires-2
 wrapped-requires-2 c κs = within-more (drift-small (c .before)) (lit≤ tt)
 
 -- ---- the revolution
-gained-within : (c : tie.After-drift) → Within (9000 * 4294967296 + 1000 * 4294967296) (toZ w64 (ofZ w64 (c .before .before .advance .result)) +ℤ toZ w64 (ofZ w64 (c .drift .result)))
-gained-within c = within-add (advance-small (c .before .before)) (drift-small c)
+sum-within : {x y : ℤ} → Within (9000 * 4294967296) x → Within (1000 * 4294967296) y → Within (10000 * 4294967296) (x +ℤ y)
+sum-within h k = within-more (within-add h k) (lit≤ tt)
+
+sum-fits : {x y : ℤ} → Within (9000 * 4294967296) x → Within (1000 * 4294967296) y → SFits w64 (x +ℤ y)
+sum-fits h k = sfits-within (sum-within h k) tt
 
 add-revolution : tie.Need-add-revolution
-add-revolution c = sfits-within (gained-within (c .before .before)) tt
+add-revolution c =
+    let a = advance-small (c .before .before .before .before) in
+    let b = drift-small (c .before .before) in
+    search (needs, sum-fits)
 
 revolution-requires : tie.Need-revolution-requires
 revolution-requires c κs =
-    let d = c .before .before in
-    (passed (start d) .elements .revolution-le, rw (toZ-ofZ (add-revolution c)) (gained-within d))
+    let a = advance-small (c .before .before .before .before) in
+    let b = drift-small (c .before .before) in
+    let e = passed (start (c .before .before)) .elements .revolution-le in
+    rw (toZ-ofZ (add-revolution c)) (e, search (needs, sum-within))
 
 gain-is : (c : tie.After-drift) → let a = start c .args in toZ w64 (ofZ w64 (c .before .before .advance .result)) +ℤ toZ w64 (ofZ w64 (c .drift .result)) ≡ gain (a .elements) (a .time)
 unfolding gain
