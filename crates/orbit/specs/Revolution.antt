@@ -22,7 +22,7 @@ gain el t = advance (el .«mean_motion») (elapsedOf el t) +ℤ drift (el .«per
 unfoldable pub nodePassages : ℕ → ℤ → ℤ
 nodePassages u x = floorZ (pos u +ℤ x) (2 ^ 32) -ℤ pos (u / 2 ^ 32)
 
--- the revolution: that of the epoch, and the passages since
+-- the revolution: that of the epoch + (M0 + argument of perigee + A + B) / 2^32 down, less (M0 + argument of perigee) / 2^32 down
 unfoldable pub revolution : Elements → ℤ → ℤ
 revolution el t = pos (el .«epoch_revolution») +ℤ nodePassages (latitudeOf el) (gain el t)
 

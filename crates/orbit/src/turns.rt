@@ -1,7 +1,8 @@
 // Turns since the epoch, the drift of the node and the argument of perigee, and the number of the
 // revolution: document 01, "From elements to position". The functions are called with elements and a
 // time that passed the checks. Within a year's time of the epoch A has less than 9,000 turns and a
-// drift less than 1,000, so that every sum of theirs is below 2^46 and fits an i64.
+// drift less than 1,000, so that every sum of theirs is below 2^46; the greatest product,
+// rate·Δ·2^18, is below 2^61. All of it fits an i64.
 use crate::elements::Elements;
 use integer::FloorQuotient;
 use trig::Sines;
