@@ -1,5 +1,6 @@
 pub mod Passing
 pub mod LabelFields
 pub mod DayCases
+pub mod PassedDay
 pub mod WrittenFile
 pub mod Order
