@@ -13,7 +13,7 @@ use Rattle.integer.proofs.Bounds.{within-pos, within-mul, within-more}
 use Rattle.integer.proofs.Division.{mod-below, parts-floor, floor-unique, within-floor}
 use Rattle.integer.proofs.Parts.{up, dn, parts-add, parts-scale}
 use Rattle.orbit.specs.declared.elements.Elements.{Elements}
-use Rattle.orbit.specs.Turns.{elapsedOf, wholeTurns, partTurn, advance, anomalySum, meanAnomaly, drift, drifted}
+use Rattle.orbit.specs.Turns.{elapsedOf, wholeTurns, partTurn, advance, anomalySum, meanAnomaly, drift}
 
 -- ---- A
 module _ (n : ℕ) (Δ : ℤ) where
@@ -80,7 +80,3 @@ pub drift-within : (rate Δ : ℤ) → Within 200_000 rate → Within 31_622_400
 unfolding drift
 drift-within rate Δ h k =
     within-more (within-floor (rate *ℤ Δ *ℤ pos (2 ^ 18)) 18_984_375 (within-mul (within-mul h k) (within-pos {a = 2 ^ 18} (lit≤ tt)))) (lit≤ tt)
-
-pub drifted-below : (angle : ℕ) (rate Δ : ℤ) → drifted angle rate Δ < 2 ^ 32
-unfolding drifted
-drifted-below angle rate Δ = mod-below (pos angle +ℤ drift rate Δ) (2 ^ 32) (lit< tt)

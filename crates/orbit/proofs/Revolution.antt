@@ -91,7 +91,7 @@ passages-within c u x h =
     within-parts c (floorZ z (2 ^ 32) -ℤ pos (u / 2 ^ 32)) (omega (arith, d)) (omega (arith, d))
 
 module _ (el : Elements) (t : ℤ) (a : AcceptedAt el t) where
-  pub gain-within : Within (10_000 * 2 ^ 32) (gain el t)
+  gain-within : Within (10_000 * 2 ^ 32) (gain el t)
   unfolding gain
   gain-within =
       within-more
