@@ -2,12 +2,12 @@
 use mathlib.Core.Path.{_≡_, ap}
 use Prim.Native.Nat.{ℕ, suc, _+_, _*_, _-_, _/_, _%_, _≤_, _<_}
 use native.Mathlib.Decide.{decLe}
-use native.Mathlib.Nat.{zero-mul, suc-mul, add-mul, mod-lt, div-add-mod', lt-of-not-le, mul-le-mul-right}
+use native.Mathlib.Nat.{zero-mul, suc-mul, add-mul, mod-lt, div-add-mod', lt-of-not-le, le-refl, mul-le-mul-right}
 use native.Mathlib.Omega.{arith}
 use lib.IntN.{ℤ, pos, negsuc, _*ℤ_}
 use Rattle.integer.specs.Bound.{Within}
 use Rattle.integer.specs.Division.{floorZ, modZ}
-use Rattle.integer.proofs.Bounds.{div-mono}
+use Rattle.integer.proofs.Bounds.{div-mono, within-pos, within-mul}
 use Rattle.integer.proofs.Parts.{up, dn, eq-parts, parts-scale, parts-later}
 use Rattle.integer.proofs.Ring.{ring}
 
@@ -63,6 +63,10 @@ pub within-floor : {b : ℕ} (z : ℤ) (d : ℕ) → Within b z → Within (b / 
 within-floor (pos a) d h = record { within = let m = div-mono d (h .within) in omega arith }
 within-floor {b} (negsuc a) d h =
     record { within = let m : a / d ≤ b / d = div-mono d (omega (arith, h .within)) in omega arith }
+
+pub within-product-floor : {a b : ℕ} {r z : ℤ} (s d : ℕ) → Within a r → Within b z → Within (a * b * s / d + 1) (floorZ (r *ℤ z *ℤ pos s) d)
+within-product-floor {r = r} {z = z} s d h k =
+    within-floor (r *ℤ z *ℤ pos s) d (within-mul (within-mul h k) (within-pos (le-refl s)))
 
 -- at each sign, from the number's magnitude
 pub floor-neg : (z : ℤ) (d m : ℕ) → z ≡ negsuc m → (floorZ z d ≡ negsuc (m / d)) × (modZ z d ≡ d - suc (m % d))

@@ -9,8 +9,8 @@ use lib.Dec.{lit<, lit≤}
 use lib.IntN.{ℤ, pos, _+ℤ_, _*ℤ_}
 use Rattle.integer.specs.Bound.{Within}
 use Rattle.integer.specs.Division.{floorZ, modZ}
-use Rattle.integer.proofs.Bounds.{within-pos, within-mul, within-more}
-use Rattle.integer.proofs.Division.{mod-below, parts-floor, floor-unique, within-floor}
+use Rattle.integer.proofs.Bounds.{within-pos, within-more}
+use Rattle.integer.proofs.Division.{mod-below, parts-floor, floor-unique, within-product-floor}
 use Rattle.integer.proofs.Parts.{up, dn, parts-add, parts-scale}
 use Rattle.orbit.specs.declared.elements.Elements.{Elements}
 use Rattle.orbit.specs.Turns.{elapsedOf, wholeTurns, partTurn, advance, anomalySum, meanAnomaly, drift}
@@ -40,8 +40,7 @@ module _ (n : ℕ) (Δ : ℤ) where
 
   pub advance-within : n ≤ 1_700_000_000 → Within 31_622_400 Δ → Within (9_000 * 2 ^ 32) (advance n Δ)
   advance-within h k =
-      rw advance-floor
-      (within-more (within-floor (pos n *ℤ Δ *ℤ pos (2 ^ 17)) 263_671_875 (within-mul (within-mul (within-pos h) k) (within-pos {a = 2 ^ 17} (lit≤ tt)))) (lit≤ tt))
+      rw advance-floor (within-more (within-product-floor (2 ^ 17) 263_671_875 (within-pos h) k) (lit≤ tt))
 
 -- ---- M
 module _ (el : Elements) (t : ℤ) where
@@ -78,5 +77,4 @@ module _ (el : Elements) (t : ℤ) where
 -- ---- drift
 pub drift-within : (rate Δ : ℤ) → Within 200_000 rate → Within 31_622_400 Δ → Within (1_000 * 2 ^ 32) (drift rate Δ)
 unfolding drift
-drift-within rate Δ h k =
-    within-more (within-floor (rate *ℤ Δ *ℤ pos (2 ^ 18)) 18_984_375 (within-mul (within-mul h k) (within-pos {a = 2 ^ 18} (lit≤ tt)))) (lit≤ tt)
+drift-within rate Δ h k = within-more (within-product-floor (2 ^ 18) 18_984_375 h k) (lit≤ tt)

@@ -1,5 +1,5 @@
--- The revolution: that it never falls, its bounds, that it is the epoch's at the epoch, and that it turns where the mean argument of
--- latitude passes the node. Assumes nothing.
+-- The revolution: a passage for each turn, that the number never falls, its bounds, that it is the epoch's at the epoch, and that it turns
+-- where the mean argument of latitude passes the node. Assumes nothing.
 use mathlib.Core.Path.{_≡_}
 use Prim.Native.Nat.{ℕ, _+_, _*_, _-_, _/_, _%_, _^_, _≤_, _<_}
 use native.Mathlib.Nat.{add-zero, mul-zero}
@@ -9,7 +9,7 @@ use lib.IntN.{ℤ, pos, _+ℤ_, _-ℤ_, _*ℤ_, +ℤ-invr, *ℤ-zero}
 use Rattle.integer.specs.Bound.{Within}
 use Rattle.integer.specs.Division.{floorZ, modZ}
 use Rattle.integer.proofs.Bounds.{within-pos, within-add, within-more}
-use Rattle.integer.proofs.Division.{floor-mono, floor-later, floor-unique, parts-floor}
+use Rattle.integer.proofs.Division.{parts-floor, floor-mono, floor-later, floor-unique}
 use Rattle.integer.proofs.Parts.{up, dn, signed, parts-add, parts-sub, parts-within, within-parts, parts-le}
 use Rattle.orbit.specs.declared.elements.Elements.{Elements}
 use Rattle.orbit.specs.Revolution.{latitudeOf, gain, nodePassages, revolution, NeverFalls}
@@ -17,6 +17,21 @@ use Rattle.orbit.specs.Placement.{perigeeAt}
 use Rattle.orbit.specs.Turns.{elapsedOf, advance, meanAnomaly, drift, drifted}
 use Rattle.orbit.proofs.Accepted.{Accepted, AcceptedAt, accepted-at}
 use Rattle.orbit.proofs.AnomalyAndDrift.{advance-floor, advance-within, anomaly-wraps, drift-within}
+
+-- ---- a turn more is a passage more
+pub turn-counts : (u : ℕ) (x : ℤ) → nodePassages u (x +ℤ pos (2 ^ 32)) ≡ nodePassages u x +ℤ pos 1
+unfolding nodePassages
+turn-counts u x =
+    let own = pos (u / 2 ^ 32) in
+    let z = pos u +ℤ x in
+    let z' = pos u +ℤ (x +ℤ pos (2 ^ 32)) in
+    let p = parts-add (pos u) x in
+    let p' = parts-add (pos u) (x +ℤ pos (2 ^ 32)) in
+    let s = parts-add x (pos (2 ^ 32)) in
+    let least = floor-mono z z' (2 ^ 32) 1 0 (lit< tt) (omega arith) in
+    let most = floor-mono z' z (2 ^ 32) 0 1 (lit< tt) (omega arith) in
+    let q = floorZ z (2 ^ 32) in
+    omega (signed, parts-sub (floorZ z' (2 ^ 32)) own, parts-sub q own, parts-add (q -ℤ own) (pos 1))
 
 -- ---- the number never falls
 module _ (el : Elements) (a : Accepted el) (t t' : ℤ) (k : ℕ) (later : up t' + dn t ≡ up t + (dn t' + k)) where
@@ -102,7 +117,7 @@ module _ (el : Elements) (t : ℤ) (a : AcceptedAt el t) where
   revolution-within =
       within-more (within-add (within-pos (a .elements .revolution-le)) (passages-within 10_000 (latitudeOf el) (gain el t) gain-within)) (lit≤ tt)
 
--- ---- what the definition counts
+-- ---- what the count starts from, and where it turns
 -- the revolution of the epoch, at the epoch
 pub at-epoch : (el : Elements) → revolution el (el .epoch) ≡ pos (el .«epoch_revolution»)
 unfolding revolution gain drift nodePassages
