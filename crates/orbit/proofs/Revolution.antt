@@ -33,6 +33,18 @@ turn-counts u x =
     let q = floorZ z (2 ^ 32) in
     omega (signed, parts-sub (floorZ z' (2 ^ 32)) own, parts-sub q own, parts-add (q -ℤ own) (pos 1))
 
+-- a mean argument of latitude that is wrapped first has no turns of its own to take off
+pub passages-wrapped : (u : ℕ) (x : ℤ) → floorZ (pos (u % 2 ^ 32) +ℤ x) (2 ^ 32) ≡ nodePassages u x
+unfolding nodePassages
+passages-wrapped u x =
+    let z = pos (u % 2 ^ 32) +ℤ x in
+    let z' = pos u +ℤ x in
+    let p = parts-add (pos (u % 2 ^ 32)) x in
+    let p' = parts-add (pos u) x in
+    let least = floor-mono z z' (2 ^ 32) (u / 2 ^ 32) 0 (lit< tt) (omega arith) in
+    let most = floor-mono z' z (2 ^ 32) 0 (u / 2 ^ 32) (lit< tt) (omega arith) in
+    omega (signed, parts-sub (floorZ z' (2 ^ 32)) (pos (u / 2 ^ 32)))
+
 -- ---- the number never falls
 module _ (el : Elements) (a : Accepted el) (t t' : ℤ) (k : ℕ) (later : up t' + dn t ≡ up t + (dn t' + k)) where
   abbrev Δ : ℤ

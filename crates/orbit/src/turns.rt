@@ -57,7 +57,7 @@ fn drift(rate: i32, elapsed: i64) -> i64
 // An angle, or the sum of two, that gained some turns: its whole turns, and the angle that is left.
 fn turned(angle: u64, gained: i64) -> FloorQuotient
     requires { ⌜ (angle < 2 ^ 33) × Within (10_000 * 2 ^ 32) gained ⌝ }
-    ensures { λ r. ⌜ FloorDivided (pos angle +ℤ gained) (2 ^ 32) r ⌝ }
+    ensures { λ r. ⌜ FloorDivided (pos angle +ℤ gained) (2 ^ 32) r × Within 10_002 (r .quotient) ⌝ }
 {
     integer::floor_div(angle as i64 + gained, TURN)
 }
@@ -75,9 +75,9 @@ fn revolution(first: u32, mean_anomaly: u32, argument_of_perigee: u32, gained: i
     requires { ⌜ (first ≤ 99_999) × Within (10_000 * 2 ^ 32) gained ⌝ }
     ensures { λ r. ⌜ r ≡ pos first +ℤ nodePassages («mean_anomaly» + «argument_of_perigee») gained ⌝ }
 {
-    let latitude = mean_anomaly as u64 + argument_of_perigee as u64;
-    let passages = turned(latitude, gained).quotient - (latitude / TURN) as i64;
-    (first as i64 + passages) as i32
+    // Wrapped, since a turn of the epoch's own is not counted.
+    let latitude = (mean_anomaly as u64 + argument_of_perigee as u64) % TURN;
+    (first as i64 + turned(latitude, gained).quotient) as i32
 }
 
 pub(crate) fn phase_at(elements: Elements, time: i64) -> Phase

@@ -13,7 +13,7 @@ turned-requires : tie.Need-turned-requires
 turned-requires c κs = search needs
 
 remainder-is : (c : tie.After-turned) → c .turned .result .remainder ≡ modZ (pos (c .before .args .angle) +ℤ c .before .args .gained) 4294967296
-remainder-is c = rw (toZ-ofZ (c .before .fits .gained)) at (c .turned .ensures .remainder-is)
+remainder-is c = rw (toZ-ofZ (c .before .fits .gained)) at (c .turned .ensures .0 .remainder-is)
 
 cast-result : tie.Need-cast-result
 cast-result c =
