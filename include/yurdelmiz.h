@@ -42,7 +42,8 @@ enum {
     YURDELMIZ_DRIFT_RATE = 6,
     /* Epoch revolution above 99,999. */
     YURDELMIZ_EPOCH_REVOLUTION = 7,
-    /* Epoch or time outside -2,834,956,800 to 3,476,476,799, or over 31,622,400 s apart. */
+    /* Epoch or time outside -2,834,956,800 to 3,476,476,799, or over 31,622,400 s apart, or over
+     * 2,592,000 s where the derivative of the mean motion is not 0. */
     YURDELMIZ_TIME = 8,
     /* 9 is not used, and not to be used again. */
     /* Telemetry length no multiple of 16, or over 1,024 records. */
@@ -55,6 +56,9 @@ enum {
     YURDELMIZ_LABELS = 13,
     /* Position component beyond +-200,000,000, or Sun component beyond +-2^30. */
     YURDELMIZ_COMPONENT = 14,
+    /* Half the derivative of the mean motion beyond +-1,000,000 (10^-8 revolutions a day squared), or
+     * the mean motion less 60 times its size below 20,000,000. */
+    YURDELMIZ_MEAN_MOTION_DERIVATIVE = 16,
     /* No refusal of the table: `elements` or `answer` is not of the length given here. */
     YURDELMIZ_BAD_BUFFER = 255
 };
@@ -83,7 +87,7 @@ enum {
 
 /* Lengths of `elements` and of each `answer`, in bytes. */
 enum {
-    YURDELMIZ_ELEMENTS_BYTES = 48,
+    YURDELMIZ_ELEMENTS_BYTES = 52,
     YURDELMIZ_KEPLER_BYTES = 8,
     YURDELMIZ_SUN_BYTES = 28,
     YURDELMIZ_POSITION_BYTES = 68,
@@ -94,7 +98,7 @@ enum {
 /* The parts of a result of 64 bits: the status; from yurdelmiz_label and yurdelmiz_read the place of
  * a refusal, which is the number of the record or label from 0, and 0 where none applies; from
  * yurdelmiz_elements the line of a fault, from 1, and the number from 0 of the element that was due
- * there, in the order of the file, 11 behind the last. */
+ * there, in the order of the file, 12 behind the last. */
 #define YURDELMIZ_STATUS(result) ((uint32_t)((result) & 0xffffffffu))
 #define YURDELMIZ_PLACE(result) ((uint32_t)((result) >> 32))
 #define YURDELMIZ_LINE(result) ((uint32_t)((result) >> 32) & 0xffffffu)
@@ -126,9 +130,9 @@ uint32_t yurdelmiz_kepler(uint32_t eccentricity, uint32_t mean_anomaly,
  */
 uint32_t yurdelmiz_sun(int64_t time, uint8_t *answer, size_t answer_len);
 
-/* The satellite at a time. Refusals 1 to 7 for the elements, 8 for the epoch, then 8.
+/* The satellite at a time. Refusals 1 to 7, then 16, for the elements, 8 for the epoch, then 8.
  *
- *   elements, 48 bytes:
+ *   elements, 52 bytes:
  *     0  i64  epoch
  *     8  u32  eccentricity, 10^-7
  *    12  u32  semi-major axis, metres
@@ -136,10 +140,12 @@ uint32_t yurdelmiz_sun(int64_t time, uint8_t *answer, size_t answer_len);
  *    20  u32  right ascension of the ascending node at the epoch
  *    24  u32  argument of perigee at the epoch
  *    28  u32  mean anomaly at the epoch
- *    32  u32  mean motion, 10^-8 revolutions a day
+ *    32  u32  mean motion at the epoch, 10^-8 revolutions a day
  *    36  i32  drift rate of the node, 10^-4 degree a day
  *    40  i32  drift rate of the perigee, 10^-4 degree a day
  *    44  u32  revolution at the epoch
+ *    48  i32  half the first derivative of the mean motion, as two-line elements have it,
+ *             10^-8 revolutions a day squared
  *
  *   answer, 68 bytes; positions in metres:
  *     0  i32  revolution, counted from the mean ascending node
@@ -178,16 +184,16 @@ uint32_t yurdelmiz_shade(int64_t x, int64_t y, int64_t z,
  *     2  inclination             8  perigee_rate
  *     3  node                    9  epoch_revolution
  *     4  argument_of_perigee    10  epoch
- *     5  mean_anomaly
+ *     5  mean_anomaly           11  half_mean_motion_derivative
  *
- *   answer, 48 bytes: `elements`, as above
+ *   answer, 52 bytes: `elements`, as above
  */
 uint64_t yurdelmiz_elements(const uint8_t *text, size_t text_len,
                             uint8_t *answer, size_t answer_len);
 
 /* Labels a day's telemetry: 24 bytes a record from the start of `output`, then the trailer's 16.
- * What lies behind the trailer is unchanged. Refusals 1 to 7 for the elements, 8 for the epoch, 10,
- * 11, all at place 0; then 8 for each record in order, at its place. `elements` as above.
+ * What lies behind the trailer is unchanged. Refusals 1 to 7, then 16, for the elements, 8 for the
+ * epoch, 10, 11, all at place 0; then 8 for each record in order, at its place. `elements` as above.
  *
  *   telemetry, 16 bytes a record, at most 1,024 records:
  *     0  i64  time

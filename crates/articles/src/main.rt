@@ -143,6 +143,7 @@ fn example(sun: Sun)
         perigee_rate: 0,
         epoch_revolution: 1627,
         epoch: EXAMPLE,
+        half_mean_motion_derivative: 0,
     };
     let direction = sun.direction;
     let placement = orbit::position(elements, EXAMPLE);

@@ -26,7 +26,7 @@ use Rattle.elements_file.specs.declared.line.Place.{Place}
 use Rattle.elements_file.specs.declared.line.Place.the-variants.{Start, Comment, Named, Value, Faulty}
 use Rattle.elements_file.specs.declared.number.Number.{Number}
 
-module _ (element : ℕ) (below : element ≤ 11) where
+module _ (element : ℕ) (below : element ≤ 12) where
   fit : Place → Type 0
   fit p = Fitting element p
 
@@ -38,7 +38,7 @@ module _ (element : ℕ) (below : element ≤ 11) where
       (λ u. record { due = w .due; place = let h = name-inside element k (λ e. eqb-false byte 32 u (eqb-true byte (nameByte element k) t ∙ e)) in omega arith }))
       (λ t. tt)
 
-  valued-fits : (n : Number) (byte : ℕ) → element < 11 → n .magnitude ≤ largest element (n .negative) → fit (valued element n byte)
+  valued-fits : (n : Number) (byte : ℕ) → element < 12 → n .magnitude ≤ largest element (n .negative) → fit (valued element n byte)
   unfolding valued refused counted fit
   valued-fits n byte due held =
       choice fit (isDigit byte)
@@ -50,8 +50,8 @@ module _ (element : ℕ) (below : element ≤ 11) where
   unfolding begun refused fit
   begun-fits byte =
       choice fit (eqb byte 35) (λ t. tt)
-      (λ t. choice fit (eqb element 11) (λ u. tt)
-      (λ u. named-fits 0 byte (record { due = omega (arith, eqb-false element 11 u); place = zero-le })))
+      (λ t. choice fit (eqb element 12) (λ u. tt)
+      (λ u. named-fits 0 byte (record { due = omega (arith, eqb-false element 12 u); place = zero-le })))
 
   pub within-fits : (p : Place) (byte : ℕ) → Fitting element p → Fitting element (within p element byte)
   unfolding within fit
@@ -85,6 +85,7 @@ module _ (el : Elements) (element : ℕ) (n : Number) (holds : n .magnitude ≤ 
         perigee-rate = rate-held 8 _ refl refl (h .perigee-rate);
         epoch-revolution = unsigned-held 9 _ refl refl (h .epoch-revolution);
         epoch = choice (SFits w64) (eqb element 10) (fits-epoch element n holds) (λ t. h .epoch);
+        derivative = rate-held 11 _ refl refl (h .derivative);
       }
 
 -- ---- a byte
@@ -127,6 +128,7 @@ start-consistent =
             perigee-rate = record { sfits = lit≤ tt };
             epoch-revolution = none;
             epoch = record { sfits = lit≤ tt };
+            derivative = record { sfits = lit≤ tt };
           };
     }
 
@@ -140,7 +142,7 @@ after-consistent i s (byte ∷ bytes) h =
 
 concluded-in-bounds : (p : Place) (s : Progress) → Consistent 65_535 s → InBounds (concluded p s)
 unfolding concluded
-concluded-in-bounds Start s h = choice InBounds (eqb (s .element) 11) (λ t. h .elements) (λ t. (h .line, h .element))
+concluded-in-bounds Start s h = choice InBounds (eqb (s .element) 12) (λ t. h .elements) (λ t. (h .line, h .element))
 concluded-in-bounds (Faulty fault) s h = (h .line, h .element)
 concluded-in-bounds Comment s h = (h .line, h .element)
 concluded-in-bounds (Named k) s h = (h .line, h .element)

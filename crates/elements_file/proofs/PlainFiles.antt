@@ -82,7 +82,7 @@ module _ (line element : ℕ) (el : Elements) where
   line-read name w rest p =
       simp append-assoc (name _ ∙ signed-read (w .negative) (w .first) (w .further) (10 ∷ rest) (p .leading) (p .following) (p .signed) (p .held) ∙ ended-read w rest)
 
-names-taken : (line element : ℕ) (el : Elements) → element < 11 → NameTaken line element el
+names-taken : (line element : ℕ) (el : Elements) → element < 12 → NameTaken line element el
 unfolding afterBytes nameOf names step within begun named nameByte
 names-taken line zero el h = λ rest. refl
 names-taken line (suc zero) el h = λ rest. refl
@@ -95,26 +95,27 @@ names-taken line (suc (suc (suc (suc (suc (suc (suc zero))))))) el h = λ rest. 
 names-taken line (suc (suc (suc (suc (suc (suc (suc (suc zero)))))))) el h = λ rest. refl
 names-taken line (suc (suc (suc (suc (suc (suc (suc (suc (suc zero))))))))) el h = λ rest. refl
 names-taken line (suc (suc (suc (suc (suc (suc (suc (suc (suc (suc zero)))))))))) el h = λ rest. refl
-names-taken line (suc (suc (suc (suc (suc (suc (suc (suc (suc (suc (suc k))))))))))) el h = absurd (omega arith)
+names-taken line (suc (suc (suc (suc (suc (suc (suc (suc (suc (suc (suc zero))))))))))) el h = λ rest. refl
+names-taken line (suc (suc (suc (suc (suc (suc (suc (suc (suc (suc (suc (suc k)))))))))))) el h = absurd (omega arith)
 
 -- ---- a file
 storedFrom : ℕ → ℕ → (ℕ → Numeral) → Elements → Elements
 storedFrom element zero w el = el
 storedFrom element (suc n) w el = storedFrom (element + 1) n w (stored el element (readNumber (w element)))
 
-lines-read : (line element n : ℕ) (w : ℕ → Numeral) (el : Elements) → element + n ≤ 11 → ((k : ℕ) → k < 11 → Plain k (w k)) →
+lines-read : (line element n : ℕ) (w : ℕ → Numeral) (el : Elements) → element + n ≤ 12 → ((k : ℕ) → k < 12 → Plain k (w k)) →
     afterBytes (record { line = line; element = element; place = Start; elements = el }) (linesFrom element n w)
     ≡ record { line = line + n; element = element + n; place = Start; elements = storedFrom element n w el }
 unfolding afterBytes linesFrom storedFrom
 lines-read line element zero w el h p = simp add-zero
 lines-read line element (suc n) w el h p =
-    let due : element < 11 = omega arith in
+    let due : element < 12 = omega arith in
     let l : line + 1 + n ≡ line + suc n = omega arith in
     let e : element + 1 + n ≡ element + suc n = omega arith in
     line-read line element el (names-taken line element el due) (w element) (linesFrom (element + 1) n w) (p element due)
     ∙ rw (l, e) at (lines-read (line + 1) (element + 1) n w (stored el element (readNumber (w element))) (omega arith) p)
 
 -- every plain file is taken, and gives the elements that it writes
-pub plain-taken : (w : ℕ → Numeral) → ((k : ℕ) → k < 11 → Plain k (w k)) → length (linesFrom 0 11 w) ≤ 65535 → parsed (linesFrom 0 11 w) ≡ Whole (writtenElements w)
+pub plain-taken : (w : ℕ → Numeral) → ((k : ℕ) → k < 12 → Plain k (w k)) → length (linesFrom 0 12 w) ≤ 65535 → parsed (linesFrom 0 12 w) ≡ Whole (writtenElements w)
 unfolding parsed start concluded storedFrom stored
-plain-taken w p h = rw (le-ltb 65535 (length (linesFrom 0 11 w)) h, lines-read 1 0 11 w _ (omega arith) p)
+plain-taken w p h = rw (le-ltb 65535 (length (linesFrom 0 12 w)) h, lines-read 1 0 12 w _ (omega arith) p)

@@ -21,4 +21,5 @@ stored el element n =
       «perigee_rate» = cond (eqb element 8) (signedOf n) (el .«perigee_rate»);
       «epoch_revolution» = cond (eqb element 9) (n .magnitude) (el .«epoch_revolution»);
       epoch = cond (eqb element 10) (signedOf n) (el .epoch);
+      «half_mean_motion_derivative» = cond (eqb element 11) (signedOf n) (el .«half_mean_motion_derivative»);
     }

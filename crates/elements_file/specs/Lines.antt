@@ -38,7 +38,7 @@ valued element n byte =
 unfoldable pub begun : ℕ → ℕ → Place
 begun element byte =
     cond (eqb byte 35) Comment
-    (cond (eqb element 11) (refused byte Extra)
+    (cond (eqb element 12) (refused byte Extra)
     (named element 0 byte))
 
 -- what a byte that ends no line makes of the line so far; the first fault stands

@@ -5,9 +5,9 @@ use lib.Dec.{eqb, leb}
 use lib.IntN.{ℤ, pos, negℤ}
 use Rattle.elements_file.specs.declared.number.Number.{Number}
 
--- the drift rates of the node and of the perigee, in 32 bits
+-- the drift rates of the node and of the perigee, and half the derivative of the mean motion, in 32 bits
 abbrev pub isRate : ℕ → Bool
-isRate element = eqb element 7 || eqb element 8
+isRate element = eqb element 7 || (eqb element 8 || eqb element 11)
 
 -- the epoch, in 64 bits
 abbrev pub isEpoch : ℕ → Bool

@@ -37,7 +37,7 @@ upToSpace [] = []
 upToSpace (byte ∷ bytes) = cond (eqb byte 32) [] (byte ∷ upToSpace bytes)
 
 unfoldable pub nameOf : ℕ → List ℕ
-nameOf element = upToSpace (drop (20 * element) names)
+nameOf element = upToSpace (drop (28 * element) names)
 
 -- the name, a space, the value, LF
 unfoldable pub lineOf : ℕ → Numeral → List ℕ
@@ -73,4 +73,5 @@ writtenElements w =
       «perigee_rate» = signedOf (readNumber (w 8));
       «epoch_revolution» = readNumber (w 9) .magnitude;
       epoch = signedOf (readNumber (w 10));
+      «half_mean_motion_derivative» = signedOf (readNumber (w 11));
     }

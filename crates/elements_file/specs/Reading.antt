@@ -35,6 +35,7 @@ start =
             «perigee_rate» = pos 0;
             «epoch_revolution» = 0;
             epoch = pos 0;
+            «half_mean_motion_derivative» = pos 0;
           };
     }
 
@@ -66,7 +67,7 @@ afterBytes s (byte ∷ bytes) = afterBytes (step s byte) bytes
 
 -- the end of the file: between lines, with every element read
 unfoldable pub concluded : Place → Progress → Parsed
-concluded Start s = cond (eqb (s .element) 11) (Whole (s .elements)) (Malformed (s .line) (s .element) Missing)
+concluded Start s = cond (eqb (s .element) 12) (Whole (s .elements)) (Malformed (s .line) (s .element) Missing)
 concluded (Faulty fault) s = Malformed (s .line) (s .element) fault
 concluded Comment s = Malformed (s .line) (s .element) Unended
 concluded (Named k) s = Malformed (s .line) (s .element) Unended

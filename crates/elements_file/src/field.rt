@@ -49,5 +49,10 @@ pub(crate) fn stored(elements: Elements, element: u32, number: Number) -> Elemen
         perigee_rate: rate(element == 8, signed, elements.perigee_rate),
         epoch_revolution: unsigned(element == 9, magnitude, elements.epoch_revolution),
         epoch: epoch(element == 10, signed, elements.epoch),
+        half_mean_motion_derivative: rate(
+            element == 11,
+            signed,
+            elements.half_mean_motion_derivative,
+        ),
     }
 }

@@ -1,4 +1,4 @@
-// An elements file: eleven lines of a name, a space and a whole number, in a fixed order.
+// An elements file: twelve lines of a name, a space and a whole number, in a fixed order.
 mod field;
 mod line;
 mod name;
@@ -65,6 +65,7 @@ fn start() -> Progress
             perigee_rate: 0,
             epoch_revolution: 0,
             epoch: 0,
+            half_mean_motion_derivative: 0,
         },
     }
 }
@@ -145,7 +146,7 @@ fn finished(s: Progress) -> Parsed
     let place = s.place;
     match place {
         Place::Start => {
-            if s.element == 11 {
+            if s.element == 12 {
                 let elements = s.elements;
                 Parsed::Whole(elements)
             } else {

@@ -83,13 +83,13 @@ fn valued(element: u32, number: Number, byte: u8) -> Place
 }
 
 fn begun(element: u32, byte: u8) -> Place
-    requires { ⌜ element ≤ 11 ⌝ }
+    requires { ⌜ element ≤ 12 ⌝ }
     ensures { λ r. ⌜ r ≡ begun element byte ⌝ }
 {
     if byte == b'#' {
         return Place::Comment;
     }
-    if element == 11 {
+    if element == 12 {
         return refused(byte, Fault::Extra);
     }
     named(element, 0, byte)
@@ -98,7 +98,7 @@ fn begun(element: u32, byte: u8) -> Place
 // The line with a further byte that does not end it. The reader keeps the element and the place together,
 // which is what the `requires` asks.
 pub(crate) fn within(place: Place, element: u32, byte: u8) -> Place
-    requires { ⌜ (element ≤ 11) × Fitting element place ⌝ }
+    requires { ⌜ (element ≤ 12) × Fitting element place ⌝ }
     ensures { λ r. ⌜ r ≡ within place element byte ⌝ }
 {
     match place {

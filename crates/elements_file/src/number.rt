@@ -13,7 +13,10 @@ pub struct Number {
 fn is_rate(element: u32) -> bool
     ensures { λ r. ⌜ r ≡ isRate element ⌝ }
 {
-    element == 7 || element == 8
+    if element == 7 {
+        return true;
+    }
+    element == 8 || element == 11
 }
 
 // The largest magnitude that an element holds.

@@ -4,7 +4,7 @@
 use mathlib.Core.Path.{_≡_, refl, sym, ap, _∙_, subst}
 use mathlib.Core.Bool.{Bool, false, not}
 use Prim.Native.Nat.{ℕ, zero, suc, _+_, _*_, _-_, _≤_}
-use native.Mathlib.Nat.{zero-mul, mul-zero}
+use native.Mathlib.Nat.{zero-mul, mul-zero, add-mul}
 use native.Mathlib.Omega.{arith}
 use lib.Dec.{T, ltb, ltb→lt, nltb→le, leb→le, le→leb}
 use lib.IntN.{ℤ, pos, negsuc, negℤ, subℕ, _+ℤ_, _-ℤ_, _*ℤ_}
@@ -106,6 +106,22 @@ parts-later r z z' k e =
     let u = ap (λ (n : ℕ). up r * n) e in
     let d = ap (λ (n : ℕ). dn r * n) e in
     omega (arith, p .0, p .1, p' .0, p' .1, simp ring at u, simp ring at d)
+
+mul-swap : (a b c : ℤ) → a *ℤ b *ℤ c ≡ a *ℤ c *ℤ b
+mul-swap a b c =
+    let ab = parts-mul a b in
+    let ac = parts-mul a c in
+    let l = parts-mul (a *ℤ b) c in
+    let r = parts-mul (a *ℤ c) b in
+    eq-parts (a *ℤ b *ℤ c) (a *ℤ c *ℤ b) (rw (l .0, l .1, r .0, r .1, ab .0, ab .1, ac .0, ac .1) (simp ring (omega arith)))
+
+-- and r·z'·z' is r·z·z + (r·z + r·z')·k
+pub parts-later-square : (r z z' : ℤ) (k : ℕ) → up z' + dn z ≡ up z + (dn z' + k)
+    → up (r *ℤ z' *ℤ z') + (dn (r *ℤ z *ℤ z) + (dn (r *ℤ z) + dn (r *ℤ z')) * k) ≡ up (r *ℤ z *ℤ z) + (dn (r *ℤ z' *ℤ z') + (up (r *ℤ z) + up (r *ℤ z')) * k)
+parts-later-square r z z' k e =
+    let first = parts-later (r *ℤ z) z z' k e in
+    let second = rw (mul-swap r z' z) at (parts-later (r *ℤ z') z z' k e) in
+    simp add-mul (omega arith)
 
 -- ---- bounds
 -- a number that is neither above b nor below -b

@@ -1,7 +1,8 @@
 -- What the functions owe. Assumes nothing.
 use mathlib.Core.Path.{_≡_}
-use Prim.Native.Nat.{ℕ, _+_, _*_, _≤_}
-use lib.IntN.{ℤ}
+use Prim.Native.Nat.{ℕ, _+_, _*_, _^_, _≤_, _<_}
+use lib.IntN.{ℤ, pos, _*ℤ_}
+use Rattle.integer.specs.Bound.{Within}
 use Rattle.integer.specs.Division.{floorZ, modZ}
 use Rattle.integer.specs.Root.{root}
 use Rattle.integer.specs.declared.FloorQuotient.{FloorQuotient}
@@ -11,6 +12,12 @@ use Rattle.integer.specs.declared.PartialRoot.{PartialRoot}
 pub record FloorDivided (n : ℤ) (d : ℕ) (r : FloorQuotient) : Type 0 where
   pub quotient-is : r .quotient ≡ floorZ n d
   pub remainder-is : r .remainder ≡ modZ n d
+
+-- x·s / d down fits, and so does s times a remainder of d
+pub record Scalable (x : ℤ) (s d : ℕ) : Type 0 where
+  pub divisor : 0 < d
+  pub remainders : d * s ≤ 2 ^ 62
+  pub answer : Within (2 ^ 61) (floorZ (x *ℤ pos s) d)
 
 -- the bits that the digit-by-digit method has brought down: the square of the root so far, and the remainder
 abbrev pub broughtDown : PartialRoot → ℕ

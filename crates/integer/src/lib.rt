@@ -6,7 +6,8 @@ ghost use lib.Signed.{mag, quotZ};
 ghost use mir.Syntax.{w32, w64};
 ghost use mir.Val.{ofZ, toZ};
 ghost use Rattle.integer.specs.Bound.{Within};
-ghost use Rattle.integer.specs.Contract.{FloorDivided, RootSoFar, BitAdded};
+ghost use Rattle.integer.specs.Contract.{FloorDivided, Scalable, RootSoFar, BitAdded};
+ghost use Rattle.integer.specs.Division.{floorZ};
 ghost use Rattle.integer.specs.Root.{root};
 
 // x where x is not negative, else -1 - x.
@@ -55,6 +56,17 @@ pub fn floor_div(n: i64, d: u64) -> FloorQuotient
             remainder: m % d,
         }
     }
+}
+
+// x·scale / d down, where x·scale itself may be too large: x is divided first, and only its remainder is
+// scaled. What the `requires` asks is that all the rest fits.
+pub fn floor_scaled(x: i64, scale: u64, d: u64) -> i64
+    requires { ⌜ Scalable x scale d ⌝ }
+    ensures { λ r. ⌜ r ≡ floorZ (x *ℤ pos scale) d ⌝ }
+{
+    let whole = floor_div(x, d);
+    let part = whole.remainder * scale / d;
+    whole.quotient * (scale as i64) + part as i64
 }
 
 // The bits of x in two's complement.

@@ -4,3 +4,4 @@ pub mod DayCases
 pub mod PassedDay
 pub mod WrittenFile
 pub mod Order
+pub mod ConstantMotion

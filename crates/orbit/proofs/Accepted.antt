@@ -1,8 +1,8 @@
 -- What elements and a time that pass the checks satisfy. Assumes nothing.
 use mathlib.Core.Path.{_≡_, refl, sym}
-use mathlib.Core.Bool.{Bool, true, false, not, _||_}
-use Prim.Native.Nat.{ℕ, _*_, _-_, _≤_, _<_}
-use native.Mathlib.Nat.{mul-zero}
+use mathlib.Core.Bool.{Bool, true, false, not, _||_, _&&_}
+use Prim.Native.Nat.{ℕ, zero, suc, _+_, _*_, _-_, _≤_, _<_}
+use native.Mathlib.Nat.{zero-mul, mul-zero, mul-le-mul-left}
 use native.Mathlib.Omega.{arith}
 use borrow.Author.Tests.{ltb-false, lt-ltb}
 use lib.Dec.{ltb}
@@ -16,8 +16,9 @@ use Rattle.time.proofs.Size.{in-range-size}
 use Rattle.orbit.specs.declared.elements.Elements.{Elements}
 use Rattle.orbit.specs.declared.elements.Verdict.{Verdict}
 use Rattle.orbit.specs.declared.elements.Verdict.the-variants.{Passed, Refused}
-use Rattle.orbit.specs.Elements.{refuseIf, perigeeBelow, checked}
-use Rattle.orbit.specs.Time.{timeRefused, checkedAt}
+use Rattle.orbit.specs.Contract.{Near}
+use Rattle.orbit.specs.Elements.{refuseIf, perigeeBelow, checkedTo7, checked}
+use Rattle.orbit.specs.Time.{timesRefused, timeRefused, checkedAt}
 
 pub perigee-beyond : (a e : ℕ) → 10000000 < e → true ≡ perigeeBelow a e
 unfolding perigeeBelow
@@ -43,19 +44,32 @@ stood Passed false r e = record { before = refl; holds = refl }
 pub record Accepted (el : Elements) : Type 0 where
   pub eccentricity-le : el .eccentricity ≤ 9_000_000
   pub axis-le : el .«semi_major_axis» ≤ 100_000_000
-  pub motion-ge : 20_000_000 ≤ el .«mean_motion»
+  pub motion-ge : 20_000_000 + 60 * natAbs (el .«half_mean_motion_derivative») ≤ el .«mean_motion»
   pub motion-le : el .«mean_motion» ≤ 1_700_000_000
   pub node-rate : Within 200_000 (el .«node_rate»)
   pub perigee-rate : Within 200_000 (el .«perigee_rate»)
   pub revolution-le : el .«epoch_revolution» ≤ 99_999
+  pub derivative : Within 1_000_000 (el .«half_mean_motion_derivative»)
+
+-- what 5 leaves at least
+pub least-motion : (el : Elements) → checkedTo7 el ≡ Passed → 20_000_000 ≤ el .«mean_motion»
+unfolding checkedTo7
+least-motion el e =
+    let n = el .«mean_motion» in
+    let s6' = stood _ _ _ (stood _ _ _ e .before) in
+    let s5 = stood _ _ _ (stood _ _ _ (s6' .before) .before) in
+    ltb-false _ _ (or-false (ltb n 20_000_000) (ltb 1_700_000_000 n) (s5 .holds) .0)
 
 pub accepted : (el : Elements) → checked el ≡ Passed → Accepted el
-unfolding checked
+unfolding checked checkedTo7
 accepted el e =
     let a = el .«semi_major_axis» in
     let n = el .«mean_motion» in
+    let size = natAbs (el .«half_mean_motion_derivative») in
     let s8 = stood _ _ _ e in
-    let s7 = stood _ _ _ (s8 .before) in
+    let s16 = stood _ _ _ (s8 .before) in
+    let s7 = stood _ _ _ (s16 .before) in
+    let slow = or-false (ltb 1_000_000 size) (ltb n (20_000_000 + 60 * size)) (s16 .holds) in
     let s6' = stood _ _ _ (s7 .before) in
     let s6 = stood _ _ _ (s6' .before) in
     let s5 = stood _ _ _ (s6 .before) in
@@ -66,11 +80,12 @@ accepted el e =
     record {
       eccentricity-le = ltb-false _ _ (s1 .holds);
       axis-le = ltb-false _ _ (or-false (ltb a 6_600_000) (ltb 100_000_000 a) (s2 .holds) .1);
-      motion-ge = ltb-false _ _ (or-false (ltb n 20_000_000) (ltb 1_700_000_000 n) (s5 .holds) .0);
+      motion-ge = omega (arith, ltb-false n (20_000_000 + 60 * size) (slow .1));
       motion-le = ltb-false _ _ (or-false (ltb n 20_000_000) (ltb 1_700_000_000 n) (s5 .holds) .1);
       node-rate = record { within = ltb-false _ _ (s6 .holds) };
       perigee-rate = record { within = ltb-false _ _ (s6' .holds) };
       revolution-le = ltb-false _ _ (s7 .holds);
+      derivative = record { within = ltb-false _ _ (slow .0) };
     }
 
 not-false : (b : Bool) → not b ≡ false → b ≡ true
@@ -84,37 +99,49 @@ in-range t e = record { within = in-range-size t (not-false (inRange t) e) }
 pub apart : (epoch time : ℤ) → not (inRange epoch) ≡ false → not (inRange time) ≡ false → Within 6_952_953_598 (time -ℤ epoch)
 apart epoch time e t = within-sub (in-range time t) (in-range epoch e)
 
--- a time that is not refused: the three tests
-record Timely (epoch t : ℤ) : Type 0 where
-  time-tested : not (inRange t) ≡ false
-  near-tested : ltb 31_622_400 (natAbs (t -ℤ epoch)) ≡ false
+-- a size that is 0, or another within 30 days
+near-size : (size Δ : ℕ) → (ltb 0 size && ltb 2_592_000 Δ) ≡ false → size * Δ ≤ size * 2_592_000
+near-size zero Δ e = omega (arith, zero-mul Δ, zero-mul 2_592_000)
+near-size (suc size) Δ e = mul-le-mul-left (suc size) (ltb-false 2_592_000 Δ (rw (lt-ltb 0 (suc size) (omega arith)) at e))
 
-timely : (epoch t : ℤ) → timeRefused epoch t ≡ false → Timely epoch t
-unfolding timeRefused
-timely epoch t e =
-    let far = ltb 31_622_400 (natAbs (t -ℤ epoch)) in
-    let o = or-false (not (inRange epoch)) (not (inRange t) || far) e in
-    let p = or-false (not (inRange t)) far (o .1) in
-    record { time-tested = p .0; near-tested = p .1 }
+-- ---- a time that is not refused
+module _ (epoch t : ℤ) (timely : timesRefused epoch t ≡ false) where
+  tests : (not (inRange t) ≡ false) × (ltb 31_622_400 (natAbs (t -ℤ epoch)) ≡ false)
+  unfolding timesRefused
+  tests =
+      let far = ltb 31_622_400 (natAbs (t -ℤ epoch)) in
+      or-false (not (inRange t)) far (or-false (not (inRange epoch)) (not (inRange t) || far) timely .1)
 
-pub near-epoch : (epoch t : ℤ) → timeRefused epoch t ≡ false → Within 31_622_400 (t -ℤ epoch)
-near-epoch epoch t e = record { within = ltb-false _ _ (timely epoch t e .near-tested) }
+  pub within-year : Within 31_622_400 (t -ℤ epoch)
+  within-year = record { within = ltb-false _ _ (tests .1) }
 
-pub time-in-range : (epoch t : ℤ) → timeRefused epoch t ≡ false → inRange t ≡ true
-time-in-range epoch t e = not-false (inRange t) (timely epoch t e .time-tested)
+  in-years : inRange t ≡ true
+  in-years = not-false (inRange t) (tests .0)
+
+module _ (el : Elements) (t : ℤ) (timely : timeRefused el t ≡ false) where
+  abbrev size : ℕ
+  size = natAbs (el .«half_mean_motion_derivative»)
+
+  both : (timesRefused (el .epoch) t ≡ false) × ((ltb 0 size && ltb 2_592_000 (natAbs (t -ℤ el .epoch))) ≡ false)
+  unfolding timeRefused
+  both = or-false (timesRefused (el .epoch) t) (ltb 0 size && ltb 2_592_000 (natAbs (t -ℤ el .epoch))) timely
+
+  pub time-in-range : inRange t ≡ true
+  time-in-range = in-years (el .epoch) t (both .0)
+
+  near : Within 1_000_000 (el .«half_mean_motion_derivative») → Near (el .«half_mean_motion_derivative») (t -ℤ el .epoch)
+  near h =
+      record { derivative = h; elapsed = within-year (el .epoch) t (both .0); near = near-size size (natAbs (t -ℤ el .epoch)) (both .1) }
 
 -- ---- elements and a time
 pub record AcceptedAt (el : Elements) (t : ℤ) : Type 0 where
   pub elements : Accepted el
-  pub elapsed : Within 31_622_400 (t -ℤ el .epoch)
+  pub near : Near (el .«half_mean_motion_derivative») (t -ℤ el .epoch)
   pub in-range : inRange t ≡ true
 
 pub accepted-at : (el : Elements) (t : ℤ) → checkedAt el t ≡ Passed → AcceptedAt el t
 unfolding checkedAt
 accepted-at el t e =
-    let s = stood (checked el) (timeRefused (el .epoch) t) _ e in
-    record {
-      elements = accepted el (s .before);
-      elapsed = near-epoch (el .epoch) t (s .holds);
-      in-range = time-in-range (el .epoch) t (s .holds);
-    }
+    let s = stood (checked el) (timeRefused el t) _ e in
+    let a = accepted el (s .before) in
+    record { elements = a; near = near el t (s .holds) (a .derivative); in-range = time-in-range el t (s .holds) }

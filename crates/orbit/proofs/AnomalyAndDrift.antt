@@ -1,78 +1,71 @@
--- A, the mean anomaly and drift: A as one quotient, the mean anomaly as a sum that wraps, and their bounds. Assumes nothing.
-use mathlib.Core.Path.{_≡_, sym}
-use Prim.Native.Nat.{ℕ, _+_, _*_, _-_, _/_, _%_, _^_, _≤_, _<_}
-use native.Mathlib.Decide.{decLt}
-use native.Mathlib.Nat.{lt-of-not-le}
+-- A and drift: the linear term as one quotient, and the bounds of all terms. Assumes nothing.
+use mathlib.Core.Path.{_≡_, refl, sym}
+use Prim.Native.Nat.{ℕ, _+_, _*_, _/_, _%_, _^_, _≤_, _<_}
+use native.Mathlib.Nat.{le-refl, mul-le-mul-right}
 use native.Mathlib.Omega.{arith}
-use borrow.Author.Tests.{le-leb, lt-leb}
-use lib.Dec.{lit<, lit≤}
-use lib.IntN.{ℤ, pos, _+ℤ_, _*ℤ_}
+use lib.Dec.{lit≤}
+use lib.IntN.{ℤ, pos, negsuc, natAbs, _*ℤ_}
 use Rattle.integer.specs.Bound.{Within}
 use Rattle.integer.specs.Division.{floorZ, modZ}
-use Rattle.integer.proofs.Bounds.{within-pos, within-more}
-use Rattle.integer.proofs.Division.{mod-below, parts-floor, floor-unique, within-product-floor}
+use Rattle.integer.proofs.Bounds.{within-pos, within-add, within-mul, within-more}
+use Rattle.integer.proofs.Division.{mod-below, parts-floor, floor-unique, within-floor, within-product-floor}
 use Rattle.integer.proofs.Parts.{up, dn, parts-add, parts-scale}
+use Rattle.integer.proofs.Ring.{ring}
+use Rattle.integer.proofs.Sizes.{natAbs-mul}
 use Rattle.orbit.specs.declared.elements.Elements.{Elements}
-use Rattle.orbit.specs.Turns.{elapsedOf, wholeTurns, partTurn, advance, anomalySum, meanAnomaly, drift}
+use Rattle.orbit.specs.Contract.{Near}
+use Rattle.orbit.specs.Turns.{elapsedOf, wholeTurns, partTurn, linearTerm, quadraticTerm, advance, drift}
 
--- ---- A
+-- ---- the linear term
 module _ (n : ℕ) (Δ : ℤ) where
-  part-below : partTurn n Δ < 2 ^ 32
+  pub part-below : partTurn n Δ < 2 ^ 32
   unfolding partTurn
   part-below = omega (arith, mod-below (pos n *ℤ Δ) 8_640_000_000_000 (lit≤ tt))
 
-  -- A is w·2^32 and the part turn
-  advance-parts : let w = wholeTurns n Δ in up (advance n Δ) + dn w * 2 ^ 32 ≡ dn (advance n Δ) + (up w * 2 ^ 32 + partTurn n Δ)
-  unfolding advance
-  advance-parts =
+  -- it is w·2^32 and the part turn
+  pub linear-parts : let w = wholeTurns n Δ in up (linearTerm n Δ) + dn w * 2 ^ 32 ≡ dn (linearTerm n Δ) + (up w * 2 ^ 32 + partTurn n Δ)
+  unfolding linearTerm
+  linear-parts =
       let s = parts-scale (wholeTurns n Δ) (2 ^ 32) in
       omega (arith, s .0, s .1, parts-add (wholeTurns n Δ *ℤ pos (2 ^ 32)) (pos (partTurn n Δ)))
 
-  -- A is one quotient: n·Δ·2^17 / 263,671,875 down
-  pub advance-floor : advance n Δ ≡ floorZ (pos n *ℤ Δ *ℤ pos (2 ^ 17)) 263_671_875
+  -- it is one quotient: n·Δ·2^17 / 263,671,875 down
+  pub linear-floor : linearTerm n Δ ≡ floorZ (pos n *ℤ Δ *ℤ pos (2 ^ 17)) 263_671_875
   unfolding wholeTurns partTurn
-  advance-floor =
+  linear-floor =
       let z = pos n *ℤ Δ in
       let m = modZ z 8_640_000_000_000 in
       let s = parts-scale z (2 ^ 17) in
-      sym (floor-unique (z *ℤ pos (2 ^ 17)) (advance n Δ) 263_671_875 (m * 2 ^ 17 % 263_671_875) (omega arith)
-      (omega (arith, s .0, s .1, parts-floor z 8_640_000_000_000 (lit≤ tt), advance-parts)) .0)
+      sym (floor-unique (z *ℤ pos (2 ^ 17)) (linearTerm n Δ) 263_671_875 (m * 2 ^ 17 % 263_671_875) (omega arith)
+      (omega (arith, s .0, s .1, parts-floor z 8_640_000_000_000 (lit≤ tt), linear-parts)) .0)
 
-  pub advance-within : n ≤ 1_700_000_000 → Within 31_622_400 Δ → Within (9_000 * 2 ^ 32) (advance n Δ)
-  advance-within h k =
-      rw advance-floor (within-more (within-product-floor (2 ^ 17) 263_671_875 (within-pos h) k) (lit≤ tt))
+  pub linear-within : n ≤ 1_700_000_000 → Within 31_622_400 Δ → Within (8_000 * 2 ^ 32) (linearTerm n Δ)
+  linear-within h k =
+      rw linear-floor (within-more (within-product-floor (2 ^ 17) 263_671_875 (within-pos h) k) (lit≤ tt))
 
--- ---- M
-module _ (el : Elements) (t : ℤ) where
-  abbrev M0 : ℕ
-  M0 = el .«mean_anomaly»
+-- ---- the quadratic term
+-- with d = -1 a second takes off a unit: the term is rounded down, and not toward zero
+pub one-below : quadraticTerm (negsuc 0) (pos 1) ≡ negsuc 0
+unfolding quadraticTerm
+one-below = refl
 
-  abbrev Δ : ℤ
-  Δ = elapsedOf el t
+module _ (d Δ : ℤ) (h : Near d Δ) where
+  -- d·Δ² is at most that of the greatest d in 30 days
+  pub square-within : Within (1_000_000 * 2_592_000 * 2_592_000) (d *ℤ Δ *ℤ Δ)
+  square-within =
+      let once = mul-le-mul-right (natAbs Δ) (h .near) in
+      let twice = mul-le-mul-right 2_592_000 (h .near) in
+      record { within = rw (natAbs-mul (d *ℤ Δ) Δ, natAbs-mul d Δ) (omega (arith, simp ring at once, simp ring at twice, h .derivative .within)) }
 
-  abbrev A : ℤ
-  A = advance (el .«mean_motion») Δ
+  pub quadratic-within : Within (10 * 2 ^ 32) (quadraticTerm d Δ)
+  unfolding quadraticTerm
+  quadratic-within =
+      within-more (within-floor (d *ℤ Δ *ℤ Δ *ℤ pos (2 ^ 10)) 177_978_515_625 (within-mul square-within (within-pos (le-refl (2 ^ 10))))) (lit≤ tt)
 
-  abbrev w : ℤ
-  w = wholeTurns (el .«mean_motion») Δ
-
-  -- M is M0 and A, wrapped
-  pub anomaly-wraps : el .«mean_anomaly» < 2 ^ 32 → meanAnomaly el t ≡ modZ (pos M0 +ℤ A) (2 ^ 32)
-  unfolding meanAnomaly anomalySum
-  anomaly-wraps held = by (decLt (anomalySum el t) (2 ^ 32))
-    where
-      by : Dec (anomalySum el t < 2 ^ 32) → meanAnomaly el t ≡ modZ (pos M0 +ℤ A) (2 ^ 32)
-      by (yes h) =
-          rw (lt-leb (2 ^ 32) (anomalySum el t) h, meanAnomaly)
-          (sym (floor-unique (pos M0 +ℤ A) w (2 ^ 32) (anomalySum el t) h (omega (arith, advance-parts (el .«mean_motion») Δ, parts-add (pos M0) A)) .1))
-      by (no f) =
-          let h : 2 ^ 32 ≤ anomalySum el t = omega (arith, lt-of-not-le f) in
-          rw (le-leb (2 ^ 32) (anomalySum el t) h, meanAnomaly)
-          (sym (floor-unique (pos M0 +ℤ A) (w +ℤ pos 1) (2 ^ 32) (anomalySum el t - 2 ^ 32) (omega (arith, part-below (el .«mean_motion») Δ))
-          (omega (arith, advance-parts (el .«mean_motion») Δ, parts-add (pos M0) A, parts-add w (pos 1))) .1))
-
-  pub mean-anomaly-below : el .«mean_anomaly» < 2 ^ 32 → meanAnomaly el t < 2 ^ 32
-  mean-anomaly-below held = rw (anomaly-wraps held) (mod-below (pos M0 +ℤ A) (2 ^ 32) (lit< tt))
+pub advance-within : (el : Elements) (t : ℤ) → el .«mean_motion» ≤ 1_700_000_000 → Near (el .«half_mean_motion_derivative») (elapsedOf el t)
+    → Within (9_000 * 2 ^ 32) (advance el t)
+unfolding advance
+advance-within el t h k = within-more (within-add (linear-within _ _ h (k .elapsed)) (quadratic-within _ _ k)) (lit≤ tt)
 
 -- ---- drift
 pub drift-within : (rate Δ : ℤ) → Within 200_000 rate → Within 31_622_400 Δ → Within (1_000 * 2 ^ 32) (drift rate Δ)

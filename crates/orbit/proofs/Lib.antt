@@ -3,3 +3,4 @@ pub mod AnomalyAndDrift
 pub mod Revolution
 pub mod Distances
 pub mod Placements
+pub mod ConstantMotion

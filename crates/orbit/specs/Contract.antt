@@ -1,7 +1,7 @@
 -- What the functions ask and owe. Assumes nothing.
 use mathlib.Core.Path.{_≡_}
-use Prim.Native.Nat.{ℕ, _^_, _≤_}
-use lib.IntN.{ℤ}
+use Prim.Native.Nat.{ℕ, _*_, _^_, _≤_}
+use lib.IntN.{ℤ, natAbs}
 use Rattle.integer.specs.Bound.{Within}
 use Rattle.trig.specs.Contract.{SinesAt}
 use Rattle.kepler.specs.Bracket.{Bracketed}
@@ -25,6 +25,12 @@ use Rattle.orbit.specs.Turns.{elapsedOf, meanAnomaly}
 pub record Elapsed (el : Elements) (t r : ℤ) : Type 0 where
   pub is : r ≡ elapsedOf el t
   pub small : Within 31_622_400 r
+
+-- half a derivative d of the mean motion and an elapsed time Δ that are accepted together: within a year, and within 30 days unless d is 0
+pub record Near (d Δ : ℤ) : Type 0 where
+  pub derivative : Within 1_000_000 d
+  pub elapsed : Within 31_622_400 Δ
+  pub near : natAbs d * natAbs Δ ≤ natAbs d * 2_592_000
 
 pub record PhaseAt (el : Elements) (t : ℤ) (r : Phase) : Type 0 where
   pub anomaly-is : r .«mean_anomaly» ≡ meanAnomaly el t

@@ -1,10 +1,10 @@
--- When elements are refused: document 01, "When the build says no", numbers 1 to 8, in their order. Assumes nothing.
-use Prim.Native.Nat.{ℕ, _*_, _-_, _^_}
+-- When elements are refused: document 01, "When the build says no", numbers 1 to 7, 16 and 8, in their order. Assumes nothing.
+use Prim.Native.Nat.{ℕ, _+_, _*_, _-_, _^_}
 use mathlib.Core.Bool.{Bool, true, false, not, _||_}
 use lib.Dec.{ltb}
 use lib.IntN.{ℤ, natAbs}
 use Rattle.refusal.specs.declared.Refusal.{Refusal}
-use Rattle.refusal.specs.declared.Refusal.the-variants.{Eccentricity, SemiMajorAxis, PerigeeDistance, Inclination, MeanMotion, DriftRate, EpochRevolution, Time}
+use Rattle.refusal.specs.declared.Refusal.the-variants.{Eccentricity, SemiMajorAxis, PerigeeDistance, Inclination, MeanMotion, DriftRate, EpochRevolution, Time, MeanMotionDerivative}
 use Rattle.time.specs.Range.{inRange}
 use Rattle.orbit.specs.declared.elements.Elements.{Elements}
 use Rattle.orbit.specs.declared.elements.Verdict.{Verdict}
@@ -26,8 +26,13 @@ perigeeBelow a e = ltb (a * (10 ^ 7 - e)) (6_478_000 * 10 ^ 7)
 abbrev pub rateBeyond : ℤ → Bool
 rateBeyond rate = ltb 200_000 (natAbs rate)
 
-unfoldable pub checked : Elements → Verdict
-checked el =
+-- d is beyond ±1,000,000, or n less 60·|d|, which is what 30 days can leave of the mean motion, is below 20,000,000
+abbrev pub derivativeBeyond : ℕ → ℤ → Bool
+derivativeBeyond n d = ltb 1_000_000 (natAbs d) || ltb n (20_000_000 + 60 * natAbs d)
+
+-- 1 to 7
+unfoldable pub checkedTo7 : Elements → Verdict
+checkedTo7 el =
     -- 1
     let c1 = refuseIf Passed (ltb 9_000_000 (el .eccentricity)) Eccentricity in
     -- 2
@@ -42,6 +47,10 @@ checked el =
     let c6 = refuseIf c5 (rateBeyond (el .«node_rate»)) DriftRate in
     let c6' = refuseIf c6 (rateBeyond (el .«perigee_rate»)) DriftRate in
     -- 7
-    let c7 = refuseIf c6' (ltb 99_999 (el .«epoch_revolution»)) EpochRevolution in
-    -- 8, of the epoch
-    refuseIf c7 (not (inRange (el .epoch))) Time
+    refuseIf c6' (ltb 99_999 (el .«epoch_revolution»)) EpochRevolution
+
+-- then 16, then 8 of the epoch
+unfoldable pub checked : Elements → Verdict
+checked el =
+    let c16 = refuseIf (checkedTo7 el) (derivativeBeyond (el .«mean_motion») (el .«half_mean_motion_derivative»)) MeanMotionDerivative in
+    refuseIf c16 (not (inRange (el .epoch))) Time

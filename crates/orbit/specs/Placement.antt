@@ -10,6 +10,7 @@ use Rattle.orbit.specs.declared.State.{State}
 use Rattle.orbit.specs.declared.Placement.{Placement}
 use Rattle.orbit.specs.declared.Placement.the-variants.{Placed, Refused}
 use Rattle.orbit.specs.declared.elements.Elements.{Elements}
+use Rattle.orbit.specs.declared.elements.Verdict.{Verdict}
 use Rattle.orbit.specs.declared.elements.Verdict.the-variants as verdict
 use Rattle.orbit.specs.Ellipse.{minorAxis, inPlaneX, inPlaneY, radius}
 use Rattle.orbit.specs.Revolution.{revolution}
@@ -34,28 +35,31 @@ perigeeAt el t = drifted (el .«argument_of_perigee») (el .«perigee_rate») (e
 unfoldable pub celestialAt : Elements → ℤ → ℕ → Position
 celestialAt el t E = celestialOf (inPlane el E) (perigeeAt el t) (el .inclination) (nodeAt el t)
 
--- the eccentric anomaly at a time
-unfoldable pub anomalyAt : Elements → ℤ → Anomaly
-anomalyAt el t =
-    record { angle = anomaly (el .eccentricity) (meanAnomaly el t); halvings = halvings (el .eccentricity) }
+-- the eccentric anomaly of a mean anomaly M
+unfoldable pub anomalyOf : Elements → ℕ → Anomaly
+anomalyOf el M = record { angle = anomaly (el .eccentricity) M; halvings = halvings (el .eccentricity) }
 
--- the state at a time
-unfoldable pub stateOf : Elements → ℤ → State
-stateOf el t =
-    let E = anomalyAt el t .angle in
+-- the state at a time that has this revolution and the mean anomaly M
+abbrev pub stateWith : Elements → ℤ → ℤ → ℕ → State
+stateWith el t number M =
+    let E = anomalyOf el M .angle in
     record {
-      revolution = revolution el t;
-      «mean_anomaly» = meanAnomaly el t;
-      anomaly = anomalyAt el t;
+      revolution = number;
+      «mean_anomaly» = M;
+      anomaly = anomalyOf el M;
       position = celestialAt el t E;
       radius = radius (el .«semi_major_axis») (el .eccentricity) (C E);
       node = nodeAt el t;
     }
 
+unfoldable pub stateOf : Elements → ℤ → State
+stateOf el t = stateWith el t (revolution el t) (meanAnomaly el t)
+
+-- a refusal, or the state where there is none
+unfoldable pub placementOf : Verdict → State → Placement
+placementOf (verdict.Refused refusal) s = Refused refusal
+placementOf verdict.Passed s = Placed s
+
 -- position: the elements, then 8
 unfoldable pub placement : Elements → ℤ → Placement
-placement el t =
-    elim (checkedAt el t) [
-      | verdict.Refused refusal ↦ Refused refusal
-      | verdict.Passed ↦ Placed (stateOf el t)
-    ]
+placement el t = placementOf (checkedAt el t) (stateOf el t)

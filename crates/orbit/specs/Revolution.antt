@@ -16,7 +16,7 @@ latitudeOf el = el .«mean_anomaly» + el .«argument_of_perigee»
 
 -- what it gains until a time: A, by the mean motion, and B, by the drift of the perigee, neither wrapped
 unfoldable pub gain : Elements → ℤ → ℤ
-gain el t = advance (el .«mean_motion») (elapsedOf el t) +ℤ drift (el .«perigee_rate») (elapsedOf el t)
+gain el t = advance el t +ℤ drift (el .«perigee_rate») (elapsedOf el t)
 
 -- passages of the mean node where a mean argument of latitude u gains x: (u + x) / 2^32 down, less u / 2^32 down
 unfoldable pub nodePassages : ℕ → ℤ → ℤ

@@ -1,7 +1,5 @@
 -- Turns since the epoch, and drift: document 01, "From elements to position". Assumes nothing.
-use mathlib.Core.Bool.{true, false}
-use Prim.Native.Nat.{ℕ, _+_, _*_, _-_, _/_, _^_}
-use lib.Dec.{leb}
+use Prim.Native.Nat.{ℕ, _*_, _/_, _^_}
 use lib.IntN.{ℤ, pos, _+ℤ_, _-ℤ_, _*ℤ_}
 use Rattle.integer.specs.Division.{floorZ, modZ}
 use Rattle.orbit.specs.declared.elements.Elements.{Elements}
@@ -18,17 +16,21 @@ wholeTurns n Δ = floorZ (pos n *ℤ Δ) 8_640_000_000_000
 unfoldable pub partTurn : ℕ → ℤ → ℕ
 partTurn n Δ = modZ (pos n *ℤ Δ) 8_640_000_000_000 * 2 ^ 17 / 263_671_875
 
--- A: w·2^32 plus the part turn
-unfoldable pub advance : ℕ → ℤ → ℤ
-advance n Δ = wholeTurns n Δ *ℤ pos (2 ^ 32) +ℤ pos (partTurn n Δ)
+-- w·2^32 plus the part turn
+unfoldable pub linearTerm : ℕ → ℤ → ℤ
+linearTerm n Δ = wholeTurns n Δ *ℤ pos (2 ^ 32) +ℤ pos (partTurn n Δ)
 
--- M0 plus the part turn
-unfoldable pub anomalySum : Elements → ℤ → ℕ
-anomalySum el t = el .«mean_anomaly» + partTurn (el .«mean_motion») (elapsedOf el t)
+-- what a mean motion that changes adds: d·Δ²·2^10 / 177,978,515,625 down, where d is half its first derivative
+unfoldable pub quadraticTerm : ℤ → ℤ → ℤ
+quadraticTerm d Δ = floorZ (d *ℤ Δ *ℤ Δ *ℤ pos (2 ^ 10)) 177_978_515_625
 
--- M: where the sum reaches 2^32, subtract 2^32
+-- A: the sum of the two, before M0 is added
+unfoldable pub advance : Elements → ℤ → ℤ
+advance el t = linearTerm (el .«mean_motion») (elapsedOf el t) +ℤ quadraticTerm (el .«half_mean_motion_derivative») (elapsedOf el t)
+
+-- M: M0 plus A; the sum wraps
 unfoldable pub meanAnomaly : Elements → ℤ → ℕ
-meanAnomaly el t = elim (leb (2 ^ 32) (anomalySum el t)) [ true ↦ anomalySum el t - 2 ^ 32 | false ↦ anomalySum el t ]
+meanAnomaly el t = modZ (pos (el .«mean_anomaly») +ℤ advance el t) (2 ^ 32)
 
 -- the drift before wrapping: rate·Δ·2^18 / 18,984,375 down
 unfoldable pub drift : ℤ → ℤ → ℤ

@@ -2,12 +2,13 @@
 // build says no".
 use refusal::Refusal;
 ghost use mathlib.Core.Path.{_≡_};
-ghost use Rattle.orbit.specs.Elements.{refuseIf, outside, perigeeBelow, rateBeyond, checked};
-ghost use Rattle.orbit.specs.Time.{timeRefused, checkedAt};
+ghost use Rattle.orbit.specs.Elements.{refuseIf, outside, perigeeBelow, rateBeyond, derivativeBeyond, checked};
+ghost use Rattle.orbit.specs.Time.{timesRefused, timeRefused, checkedAt};
 
 // The eccentricity in units of 10^-7, the semi-major axis in metres, angles in units of 2^-32 turn, the
 // mean motion in 10^-8 revolutions a day, the drift rates of the node and of the argument of perigee in
-// 10^-4 degree a day, the epoch in seconds from 1990 Jan 0.0.
+// 10^-4 degree a day, the epoch in seconds from 1990 Jan 0.0, half the first derivative of the mean
+// motion, as two-line elements have it, in 10^-8 revolutions a day squared.
 pub struct Elements {
     pub eccentricity: u32,
     pub semi_major_axis: u32,
@@ -20,6 +21,7 @@ pub struct Elements {
     pub perigee_rate: i32,
     pub epoch_revolution: u32,
     pub epoch: i64,
+    pub half_mean_motion_derivative: i32,
 }
 
 pub enum Verdict {
@@ -66,7 +68,18 @@ fn rate_beyond(rate: i32) -> bool
     200_000 < integer::magnitude(rate as i64)
 }
 
-// Refusals 1 to 7, then 8 for the epoch.
+// Over 30 days the mean motion changes by twice 30 times half its derivative.
+fn derivative_beyond(mean_motion: u32, half_derivative: i32) -> bool
+    ensures { λ r. ⌜ r ≡ derivativeBeyond «mean_motion» «half_derivative» ⌝ }
+{
+    let size = integer::magnitude(half_derivative as i64);
+    if 1_000_000 < size {
+        return true;
+    }
+    (mean_motion as u64) < 20_000_000 + 60 * size
+}
+
+// Refusals 1 to 7, then 16, then 8 for the epoch.
 pub fn check(elements: Elements) -> Verdict
     ensures { λ r. ⌜ r ≡ checked elements ⌝ }
 {
@@ -88,13 +101,15 @@ pub fn check(elements: Elements) -> Verdict
         .refuse_if(rate_beyond(elements.node_rate), Refusal::DriftRate)
         .refuse_if(rate_beyond(elements.perigee_rate), Refusal::DriftRate)
         .refuse_if(99_999 < elements.epoch_revolution, Refusal::EpochRevolution)
+        .refuse_if(
+            derivative_beyond(elements.mean_motion, elements.half_mean_motion_derivative),
+            Refusal::MeanMotionDerivative,
+        )
         .refuse_if(!time::in_range(elements.epoch), Refusal::Time)
 }
 
-// Whether a time is out of range, or too far from the epoch. An epoch out of range is refused by
-// `check`.
-pub fn time_refused(epoch: i64, time: i64) -> bool
-    ensures { λ r. ⌜ r ≡ timeRefused epoch time ⌝ }
+fn times_refused(epoch: i64, time: i64) -> bool
+    ensures { λ r. ⌜ r ≡ timesRefused epoch time ⌝ }
 {
     if !time::in_range(epoch) {
         return true;
@@ -105,9 +120,22 @@ pub fn time_refused(epoch: i64, time: i64) -> bool
     31_622_400 < integer::magnitude(time - epoch)
 }
 
-// Refusals 1 to 7 of the elements, then 8 for the epoch and the time.
+// Whether a time is out of range, or too far from the epoch: 366 days, or 30 where the mean motion
+// changes. An epoch out of range is refused by `check`.
+pub fn time_refused(elements: Elements, time: i64) -> bool
+    ensures { λ r. ⌜ r ≡ timeRefused elements time ⌝ }
+{
+    let epoch = elements.epoch;
+    if times_refused(epoch, time) {
+        return true;
+    }
+    let size = integer::magnitude(elements.half_mean_motion_derivative as i64);
+    0 < size && 2_592_000 < integer::magnitude(time - epoch)
+}
+
+// Refusals 1 to 7 and 16 of the elements, then 8 for the epoch and the time.
 pub(crate) fn check_at(elements: Elements, time: i64) -> Verdict
     ensures { λ r. ⌜ r ≡ checkedAt elements time ⌝ }
 {
-    check(elements).refuse_if(time_refused(elements.epoch, time), Refusal::Time)
+    check(elements).refuse_if(time_refused(elements, time), Refusal::Time)
 }

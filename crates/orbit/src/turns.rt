@@ -1,8 +1,8 @@
 // Turns since the epoch, the drift of the node and the argument of perigee, and the number of the
 // revolution: document 01, "From elements to position". The functions are called with elements and a
 // time that passed the checks. Within a year's time of the epoch A has less than 9,000 turns and a
-// drift less than 1,000, so that every sum of theirs is below 2^46; the greatest product,
-// rate·Δ·2^18, is below 2^61. All of it fits an i64.
+// drift less than 1,000, so that every sum of theirs is below 2^46; rate·Δ·2^18 is below 2^61. Where d is
+// not 0 the time is within 30 days, and d·Δ² below 2^63. All of it fits an i64.
 use crate::elements::Elements;
 use integer::FloorQuotient;
 use trig::Sines;
@@ -16,9 +16,9 @@ ghost use Rattle.integer.specs.Division.{modZ};
 ghost use Rattle.trig.specs.Contract.{SinesAt};
 ghost use Rattle.orbit.specs.declared.elements.Verdict.the-variants.{Passed};
 ghost use Rattle.orbit.specs.Time.{checkedAt};
-ghost use Rattle.orbit.specs.Turns.{elapsedOf, advance, drift, drifted};
+ghost use Rattle.orbit.specs.Turns.{elapsedOf, linearTerm, quadraticTerm, drift, drifted};
 ghost use Rattle.orbit.specs.Revolution.{nodePassages};
-ghost use Rattle.orbit.specs.Contract.{Elapsed, PhaseAt};
+ghost use Rattle.orbit.specs.Contract.{Elapsed, Near, PhaseAt};
 
 // The phase of an orbit: the mean anomaly, the argument of perigee as drifted, and the number of the
 // revolution.
@@ -35,14 +35,22 @@ fn elapsed(elements: Elements, time: i64) -> i64
     time - elements.epoch
 }
 
-// A: the mean anomaly gained, before wrapping.
-fn advance(mean_motion: u32, elapsed: i64) -> i64
+// w·2^32 plus the part turn are one quotient: n·Δ, of which 8,640,000,000,000 are a turn, scaled to 2^32 a
+// turn.
+fn linear_term(mean_motion: u32, elapsed: i64) -> i64
     requires { ⌜ («mean_motion» ≤ 1_700_000_000) × Within 31_622_400 elapsed ⌝ }
-    ensures { λ r. ⌜ (r ≡ advance «mean_motion» elapsed) × Within (9_000 * 2 ^ 32) r ⌝ }
+    ensures { λ r. ⌜ (r ≡ linearTerm «mean_motion» elapsed) × Within (8_000 * 2 ^ 32) r ⌝ }
 {
-    let turns = integer::floor_div((mean_motion as i64) * elapsed, 8_640_000_000_000);
-    let part = turns.remainder * 131_072 / 263_671_875;
-    turns.quotient * (TURN as i64) + part as i64
+    integer::floor_scaled((mean_motion as i64) * elapsed, 131_072, 263_671_875)
+}
+
+// What a mean motion that changes adds.
+fn quadratic_term(half_derivative: i32, elapsed: i64) -> i64
+    requires { ⌜ Near «half_derivative» elapsed ⌝ }
+    ensures { λ r. ⌜ (r ≡ quadraticTerm «half_derivative» elapsed) × Within (10 * 2 ^ 32) r ⌝ }
+{
+    let product = (half_derivative as i64) * elapsed;
+    integer::floor_scaled(product * elapsed, 1_024, 177_978_515_625)
 }
 
 // The drift of an angle at a rate, in 10^-4 degree a day, before wrapping. For the argument of perigee
@@ -85,7 +93,9 @@ pub(crate) fn phase_at(elements: Elements, time: i64) -> Phase
     ensures { λ r. ⌜ PhaseAt elements time r ⌝ }
 {
     let elapsed = elapsed(elements, time);
-    let advance = advance(elements.mean_motion, elapsed);
+    let linear = linear_term(elements.mean_motion, elapsed);
+    let quadratic = quadratic_term(elements.half_mean_motion_derivative, elapsed);
+    let advance = linear + quadratic;
     let drift = drift(elements.perigee_rate, elapsed);
     let first = elements.epoch_revolution;
     let anomaly = elements.mean_anomaly;

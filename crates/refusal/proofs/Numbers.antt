@@ -4,7 +4,7 @@ use Prim.Native.Nat.{_≤_}
 use native.Mathlib.Omega.{arith}
 use Rattle.refusal.specs.Numbers.{numberOf}
 use Rattle.refusal.specs.declared.Refusal.{Refusal}
-use Rattle.refusal.specs.declared.Refusal.the-variants.{Eccentricity, SemiMajorAxis, PerigeeDistance, Inclination, MeanMotion, DriftRate, EpochRevolution, Time, TelemetryLength, OutputLength, Trailer, Labels, Component}
+use Rattle.refusal.specs.declared.Refusal.the-variants.{Eccentricity, SemiMajorAxis, PerigeeDistance, Inclination, MeanMotion, DriftRate, EpochRevolution, Time, TelemetryLength, OutputLength, Trailer, Labels, Component, MeanMotionDerivative}
 
 numbers : (r : Refusal) → (1 ≤ numberOf r) × (numberOf r ≡ 9 → ⊥)
 numbers Eccentricity = (omega arith, omega arith)
@@ -20,6 +20,7 @@ numbers OutputLength = (omega arith, omega arith)
 numbers Trailer = (omega arith, omega arith)
 numbers Labels = (omega arith, omega arith)
 numbers Component = (omega arith, omega arith)
+numbers MeanMotionDerivative = (omega arith, omega arith)
 
 -- 0 is the status of what was accepted
 pub never-0 : (r : Refusal) → 1 ≤ numberOf r

@@ -16,6 +16,7 @@ pub enum Refusal {
     Trailer,
     Labels,
     Component,
+    MeanMotionDerivative,
 }
 
 impl Refusal {
@@ -37,6 +38,7 @@ impl Refusal {
             Refusal::Trailer => 12,
             Refusal::Labels => 13,
             Refusal::Component => 14,
+            Refusal::MeanMotionDerivative => 16,
         }
     }
 }

@@ -7,7 +7,7 @@ use native.Mathlib.Omega.{arith}
 use borrow.Author.Tests.{eq-eqb, leb-true, leb-false}
 use lib.Dec.{lit≤, leb}
 use lib.IntN.{ℤ}
-use lib.ListN.{length, getD}
+use lib.ListN.{length}
 use Rattle.refusal.proofs.Numbers.{never-0}
 use Rattle.kepler.specs.Contract.{AnomalyAt}
 use Rattle.kepler.specs.Solution.{solution}
@@ -38,7 +38,7 @@ use Rattle.yurdelmiz.specs.Buffers.{elementsOf}
 use Rattle.yurdelmiz.specs.Faults.{faultNumber, faultPlace}
 use Rattle.yurdelmiz.specs.Call.{Call, Outcome, refused, given, callOf, statusAt}
 use Rattle.yurdelmiz.specs.Calls.{anomalyOutcome, keplerCall, earthFixedAt, stateOutcome, positionCall, elementsOutcome, elementsCall, dayOutcome, labelCall, labelOutcome, countsOutcome, readCall}
-use Rattle.yurdelmiz.proofs.Elements.{elements-back, four-below}
+use Rattle.yurdelmiz.proofs.Elements.{elements-back}
 use Rattle.yurdelmiz.proofs.Endings.{ends-refused, ends-given}
 
 -- ---- status 0
@@ -93,15 +93,15 @@ pub record PositionAnswer (el : Elements) (t : ℤ) (answer : List ℕ) : Type 0
   pub state-at : StateAt el t state
   pub answer-is : answer ≡ stateBytes state (earthFixedAt (state .position) t)
 
-position-by : (el : Elements) (t : ℤ) (answer : List ℕ) (r : Placement) → placement el t ≡ r → el .«mean_anomaly» < 2 ^ 32 → Ending (stateOutcome r t) answer → PositionAnswer el t answer
-position-by el t answer (placement.Refused refusal) e angle g = absurd (omega (arith, never-0 refusal))
-position-by el t answer (placement.Placed s) e angle g = record { state = s; state-at = placed-state el t angle s e; answer-is = g }
+position-by : (el : Elements) (t : ℤ) (answer : List ℕ) (r : Placement) → placement el t ≡ r → Ending (stateOutcome r t) answer → PositionAnswer el t answer
+position-by el t answer (placement.Refused refusal) e g = absurd (omega (arith, never-0 refusal))
+position-by el t answer (placement.Placed s) e g = record { state = s; state-at = placed-state el t s e; answer-is = g }
 
-pub position-accepted : (elements : List ℕ) (t : ℤ) (buffer : List ℕ) → ((k : ℕ) → getD elements k 0 < 256) → positionCall elements t buffer .status ≡ 0
+pub position-accepted : (elements : List ℕ) (t : ℤ) (buffer : List ℕ) → positionCall elements t buffer .status ≡ 0
     → PositionAnswer (elementsOf elements) t (positionCall elements t buffer .answer)
-unfolding positionCall elementsOf
-position-accepted elements t buffer bytes s =
-    position-by (elementsOf elements) t _ (placement (elementsOf elements) t) refl (four-below elements bytes 28) (accepted _ _ buffer s)
+unfolding positionCall
+position-accepted elements t buffer s =
+    position-by (elementsOf elements) t _ (placement (elementsOf elements) t) refl (accepted _ _ buffer s)
 
 -- ---- yurdelmiz_elements
 
@@ -127,13 +127,13 @@ pub record FaultResult (line element number result : ℕ) : Type 0 where
   pub line-is : result / 2 ^ 32 % 2 ^ 24 ≡ line
   pub element-is : result / 2 ^ 32 / 2 ^ 24 ≡ element
 
-pub elements-malformed : (text buffer : List ℕ) (line element : ℕ) (fault : Fault) → length buffer ≡ 48 → parsed text ≡ parsed.Malformed line element fault
+pub elements-malformed : (text buffer : List ℕ) (line element : ℕ) (fault : Fault) → length buffer ≡ 52 → parsed text ≡ parsed.Malformed line element fault
     → FaultResult line element (faultNumber fault) (elementsCall text buffer .status)
 unfolding elementsCall
 elements-malformed text buffer line element fault n e =
     let c = subst InBounds e (parsed-in-bounds text) in
     let k = fault-numbered fault in
-    let s = ap (λ (x : Call). x .status) (sym (ends-refused _ _ buffer {status = statusAt (faultNumber fault) (faultPlace line element)} refl (eq-eqb _ 48 n) (ap elementsOutcome e))) in
+    let s = ap (λ (x : Call). x .status) (sym (ends-refused _ _ buffer {status = statusAt (faultNumber fault) (faultPlace line element)} refl (eq-eqb _ 52 n) (ap elementsOutcome e))) in
     record { status-is = omega arith; line-is = omega arith; element-is = omega arith }
 
 -- ---- yurdelmiz_label, and yurdelmiz_read of what it wrote

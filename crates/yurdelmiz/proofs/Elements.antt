@@ -1,10 +1,6 @@
 -- Elements and their bytes. Assumes nothing.
 use mathlib.Core.Path.{_≡_}
-use Prim.Native.Nat.{ℕ, _+_, _^_, _<_}
-use native.Mathlib.Omega.{arith}
-use mathlib.Core.List.{List}
-use lib.ListN.{getD}
-use Rattle.endian.specs.LittleEndian.{le4, bytes4, bytes8}
+use Rattle.endian.specs.LittleEndian.{bytes4, bytes8}
 use Rattle.endian.proofs.RoundTrip.{back4, back-i32, back-i64}
 use Rattle.orbit.specs.declared.elements.Elements.{Elements}
 use Rattle.elements_file.specs.Contract.{Held}
@@ -27,8 +23,5 @@ elements-back el h =
       «node_rate» = back-i32 (el .«node_rate») (h .node-rate) i;
       «perigee_rate» = back-i32 (el .«perigee_rate») (h .perigee-rate) i;
       «epoch_revolution» = back4 (el .«epoch_revolution») (h .epoch-revolution) i;
+      «half_mean_motion_derivative» = back-i32 (el .«half_mean_motion_derivative») (h .derivative) i;
     }
-
--- four bytes hold no more than 32 bits
-pub four-below : (bytes : List ℕ) → ((k : ℕ) → getD bytes k 0 < 256) → (at : ℕ) → le4 bytes at < 2 ^ 32
-four-below bytes small at = omega (arith, small at, small (at + 1), small (at + 2), small (at + 3))

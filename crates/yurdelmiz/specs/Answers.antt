@@ -47,7 +47,7 @@ stateBytes s earth-fixed =
     ++ bytes4 (s .node)
     ++ positionBytes earth-fixed
 
--- 48 bytes: the elements, as the other calls take them
+-- 52 bytes: the elements, as the other calls take them
 unfoldable pub elementsBytes : Elements → List ℕ
 elementsBytes el =
     bytes8 (ofZ w64 (el .epoch))
@@ -62,6 +62,7 @@ elementsBytes el =
     ∷ ofZ w32 (el .«node_rate»)
     ∷ ofZ w32 (el .«perigee_rate»)
     ∷ el .«epoch_revolution»
+    ∷ ofZ w32 (el .«half_mean_motion_derivative»)
     ∷ [])
 
 -- 12 bytes: labels, training labels, test labels

@@ -6,7 +6,7 @@ use mir.Val.{toZ}
 use Rattle.endian.specs.LittleEndian.{le4, le8}
 use Rattle.orbit.specs.declared.elements.Elements.{Elements}
 
--- elements, 48 bytes
+-- elements, 52 bytes
 unfoldable pub elementsOf : List ℕ → Elements
 elementsOf bytes =
     record {
@@ -21,4 +21,5 @@ elementsOf bytes =
       «node_rate» = toZ w32 (le4 bytes 36);
       «perigee_rate» = toZ w32 (le4 bytes 40);
       «epoch_revolution» = le4 bytes 44;
+      «half_mean_motion_derivative» = toZ w32 (le4 bytes 48);
     }

@@ -63,7 +63,7 @@ stateOutcome (placement.Placed s) t = given (stateBytes s (earthFixedAt (s .posi
 
 unfoldable pub positionCall : List ℕ → ℤ → List ℕ → Call
 positionCall elements t buffer =
-    callOf (eqb (length elements) 48 && eqb (length buffer) 68) (stateOutcome (placement (elementsOf elements) t) t) buffer
+    callOf (eqb (length elements) 52 && eqb (length buffer) 68) (stateOutcome (placement (elementsOf elements) t) t) buffer
 
 -- ---- yurdelmiz_shade
 abbrev pub shadeOutcome : ShadeAnswer → Outcome
@@ -79,7 +79,7 @@ elementsOutcome (parsed.Malformed line element fault) = refused (statusAt (fault
 elementsOutcome (parsed.Whole el) = given (elementsBytes el)
 
 unfoldable pub elementsCall : List ℕ → List ℕ → Call
-elementsCall text buffer = callOf (eqb (length buffer) 48) (elementsOutcome (parsed text)) buffer
+elementsCall text buffer = callOf (eqb (length buffer) 52) (elementsOutcome (parsed text)) buffer
 
 -- ---- yurdelmiz_label
 abbrev pub labelOutcome : Labelling → List ℕ → Outcome
@@ -92,7 +92,7 @@ dayOutcome el telemetry output = labelOutcome (labelling el telemetry (length ou
 
 unfoldable pub labelCall : List ℕ → List ℕ → List ℕ → Call
 labelCall elements telemetry output =
-    callOf (eqb (length elements) 48) (dayOutcome (elementsOf elements) telemetry output) output
+    callOf (eqb (length elements) 52) (dayOutcome (elementsOf elements) telemetry output) output
 
 -- ---- yurdelmiz_read
 abbrev pub countsOutcome : FileReading → Outcome

@@ -93,7 +93,7 @@ pub(crate) fn write_state(answer: &mut [u8], state: State, earth_fixed: Position
 }
 
 pub(crate) fn write_elements(answer: &mut [u8], elements: Elements)
-    requires { ⌜ length (now answer) ≡ 48 ⌝ }
+    requires { ⌜ length (now answer) ≡ 52 ⌝ }
     ensures { λ _. ⌜ now (answer .exit) ≡ elementsBytes elements ⌝ }
 {
     let numbers = [
@@ -107,6 +107,7 @@ pub(crate) fn write_elements(answer: &mut [u8], elements: Elements)
         integer::bits_of_i32(elements.node_rate),
         integer::bits_of_i32(elements.perigee_rate),
         elements.epoch_revolution,
+        integer::bits_of_i32(elements.half_mean_motion_derivative),
     ];
     endian::write_i64(answer, 0, elements.epoch);
     write_words(answer, 8, &numbers);
@@ -136,9 +137,9 @@ pub(crate) fn fault_number(fault: Fault) -> u32
     }
 }
 
-// A file of 65,535 bytes has at most 65,536 lines, and 11 elements.
+// A file of 65,535 bytes has at most 65,536 lines, and 12 elements.
 pub(crate) fn fault_place(line: usize, element: u32) -> u32
-    requires { ⌜ (line ≤ 65_536) × (element ≤ 11) ⌝ }
+    requires { ⌜ (line ≤ 65_536) × (element ≤ 12) ⌝ }
     ensures { λ r. ⌜ r ≡ faultPlace line element ⌝ }
 {
     line as u32 + 0x100_0000 * element

@@ -6,7 +6,7 @@ use orbit::elements::Elements;
 
 // The elements in a buffer whose length is found to be the header's.
 pub(crate) fn read_elements(bytes: &[u8]) -> Elements
-    requires { ⌜ length (now bytes) ≡ 48 ⌝ }
+    requires { ⌜ length (now bytes) ≡ 52 ⌝ }
     ensures { λ r. ⌜ r ≡ elementsOf (now (bytes .entry)) ⌝ }
 {
     Elements {
@@ -21,5 +21,6 @@ pub(crate) fn read_elements(bytes: &[u8]) -> Elements
         node_rate: endian::read_i32(bytes, 36),
         perigee_rate: endian::read_i32(bytes, 40),
         epoch_revolution: endian::read_u32(bytes, 44),
+        half_mean_motion_derivative: endian::read_i32(bytes, 48),
     }
 }

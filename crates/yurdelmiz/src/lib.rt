@@ -71,7 +71,7 @@ pub extern "C" fn yurdelmiz_sun(time: i64, answer: &mut [u8]) -> u32
 pub extern "C" fn yurdelmiz_position(elements: &[u8], time: i64, answer: &mut [u8]) -> u32
     ensures { λ r. ⌜ record { status = r; answer = now (answer .exit) } ≡ positionCall (now (elements .entry)) time (now (answer .entry)) ⌝ }
 {
-    if elements.len() != 48 {
+    if elements.len() != 52 {
         return BAD_BUFFER;
     }
     if answer.len() != 68 {
@@ -125,7 +125,7 @@ pub extern "C" fn yurdelmiz_shade(
 pub extern "C" fn yurdelmiz_elements(text: &[u8], answer: &mut [u8]) -> u64
     ensures { λ r. ⌜ record { status = r; answer = now (answer .exit) } ≡ elementsCall (now (text .entry)) (now (answer .entry)) ⌝ }
 {
-    if answer.len() != 48 {
+    if answer.len() != 52 {
         return BAD_BUFFER as u64;
     }
     let parsed = elements_file::parse(text);
@@ -145,7 +145,7 @@ pub extern "C" fn yurdelmiz_elements(text: &[u8], answer: &mut [u8]) -> u64
 pub extern "C" fn yurdelmiz_label(elements: &[u8], telemetry: &[u8], output: &mut [u8]) -> u64
     ensures { λ r. ⌜ record { status = r; answer = now (output .exit) } ≡ labelCall (now (elements .entry)) (now (telemetry .entry)) (now (output .entry)) ⌝ }
 {
-    if elements.len() != 48 {
+    if elements.len() != 52 {
         return BAD_BUFFER as u64;
     }
     let labelled = labelling::label_day(buffers::read_elements(elements), telemetry, output);

@@ -29,6 +29,7 @@ const ELEMENTS: reference::orbit::Elements = reference::orbit::Elements {
     perigee_rate: 2_834,
     epoch_revolution: 1_627,
     epoch: -138_406_500,
+    half_mean_motion_derivative: 0,
 };
 
 const LIBRARY_ELEMENTS: yurdelmiz::Elements = yurdelmiz::Elements {
@@ -43,6 +44,7 @@ const LIBRARY_ELEMENTS: yurdelmiz::Elements = yurdelmiz::Elements {
     perigee_rate: ELEMENTS.perigee_rate,
     epoch_revolution: ELEMENTS.epoch_revolution,
     epoch: ELEMENTS.epoch,
+    half_mean_motion_derivative: ELEMENTS.half_mean_motion_derivative,
 };
 
 /// A day of records, 84 seconds apart.

@@ -105,7 +105,8 @@ fn radians(angle: u32) -> f64 {
 /// Mean anomaly in degrees, and the lit share of the panels: 0 in the Earth's shadow.
 fn illumination(elements: &Elements, time: i64) -> Result<(f64, f64), Box<dyn Error>> {
     let days = (time - elements.epoch) as f64 / 86_400.0;
-    let turns = f64::from(elements.mean_motion) * 1e-8 * days;
+    let change = f64::from(elements.half_mean_motion_derivative) * days;
+    let turns = (f64::from(elements.mean_motion) + change) * 1e-8 * days;
     let mean = (radians(elements.mean_anomaly).to_degrees() + 360.0 * turns).rem_euclid(360.0);
     let state = position(elements, time)?;
     let sun = sun(time)?.direction;

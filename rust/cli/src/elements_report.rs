@@ -19,6 +19,7 @@ pub fn number(element: Element, elements: &Elements) -> i64 {
         Element::PerigeeRate => elements.perigee_rate.into(),
         Element::EpochRevolution => elements.epoch_revolution.into(),
         Element::Epoch => elements.epoch,
+        Element::HalfMeanMotionDerivative => elements.half_mean_motion_derivative.into(),
     }
 }
 
@@ -38,6 +39,10 @@ pub fn value(element: Element, elements: &Elements) -> String {
         Element::PerigeeRate => rate(elements.perigee_rate),
         Element::EpochRevolution => elements.epoch_revolution.to_string(),
         Element::Epoch => epoch(elements.epoch),
+        Element::HalfMeanMotionDerivative => {
+            let half = fixed(elements.half_mean_motion_derivative.into(), 8);
+            format!("{half} revolutions a day squared")
+        }
     }
 }
 

@@ -69,7 +69,7 @@ pub fn sentence(malformed: Malformed, text: &[u8]) -> String {
 pub fn failure(path: &Path, text: &[u8], malformed: Malformed) -> Failure {
     let sentence = sentence(malformed, text);
     let found = match malformed.fault {
-        Fault::TooLong => "an elements file has eleven lines and some comments".to_owned(),
+        Fault::TooLong => "an elements file has twelve lines and some comments".to_owned(),
         _ => found(text, malformed.line as usize),
     };
     let hint = match hint(path, text, malformed) {
@@ -155,6 +155,9 @@ fn whole(element: Element, value: &str) -> Option<String> {
         Element::NodeRate | Element::PerigeeRate => {
             format!("{shown} degrees a day are written {}", decimal.scaled(10_000))
         }
+        Element::HalfMeanMotionDerivative => {
+            format!("{shown} revolutions a day squared are written {}", decimal.scaled(100_000_000))
+        }
         Element::EpochRevolution | Element::Epoch => return None,
     })
 }
@@ -193,6 +196,11 @@ mod tests {
             (Element::MeanAnomaly, "-0.5", "-0.5 degrees are written 4289002063"),
             (Element::MeanMotion, "2.0589", "2.0589 revolutions a day are written 205890000"),
             (Element::NodeRate, "-0.1724", "-0.1724 degrees a day are written -1724"),
+            (
+                Element::HalfMeanMotionDerivative,
+                "-.00001234",
+                "-.00001234 revolutions a day squared are written -1234",
+            ),
         ] {
             assert_eq!(whole(element, value).unwrap(), told);
         }

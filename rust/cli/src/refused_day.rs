@@ -7,7 +7,7 @@ use std::path::Path;
 use yurdelmiz::{Element, Elements, LabelFile, Refusal, Refused, Sample};
 
 use crate::date;
-use crate::decimal::grouped;
+use crate::decimal::{fixed, grouped};
 use crate::elements_report;
 use crate::failure::Failure;
 use crate::input;
@@ -35,6 +35,7 @@ pub fn failure(day: &Day, refused: Refused) -> Failure {
         Refusal::MeanMotion => day.of(Element::MeanMotion, refusal),
         Refusal::DriftRate => day.rate(),
         Refusal::EpochRevolution => day.of(Element::EpochRevolution, refusal),
+        Refusal::MeanMotionDerivative => day.derivative(),
         Refusal::Time if out_of_range(day.elements.epoch) => day.epoch(),
         Refusal::Time => day.record(refused.place as usize),
         Refusal::TelemetryLength => day.length(),
@@ -121,6 +122,29 @@ impl Day<'_> {
         self.of(rate, Refusal::DriftRate)
     }
 
+    /// The derivative alone, where it is refused with the greatest mean motion, or both.
+    fn derivative(&self) -> String {
+        let refusal = Refusal::MeanMotionDerivative;
+        let fastest = Elements { mean_motion: 1_700_000_000, ..*self.elements };
+        if yurdelmiz::position(&fastest, fastest.epoch) == Err(refusal) {
+            return self.of(Element::HalfMeanMotionDerivative, refusal);
+        }
+        let half = i64::from(self.elements.half_mean_motion_derivative);
+        let least = i64::from(self.elements.mean_motion) - 60 * half.abs();
+        format!(
+            "{}, lines {} and {}: {}: mean_motion {} and half_mean_motion_derivative {} put it at {} \
+             revolutions a day 30 days {} the epoch; check their digits",
+            self.elements_name(),
+            self.line(Element::MeanMotion),
+            self.line(Element::HalfMeanMotionDerivative),
+            refusal.sentence(),
+            elements_report::value(Element::MeanMotion, self.elements),
+            elements_report::value(Element::HalfMeanMotionDerivative, self.elements),
+            fixed(least, 8),
+            if half < 0 { "after" } else { "before" },
+        )
+    }
+
     /// Whether the telemetry is what `label` writes.
     fn is_label_file(&self) -> bool {
         let regular = fs::metadata(self.telemetry_path).is_ok_and(|metadata| metadata.is_file());
@@ -171,9 +195,14 @@ impl Day<'_> {
         let mut told = if out_of_range(time) {
             format!("{place}: the record's time is {shown}, {OUTSIDE}: check the record")
         } else {
+            let reach = if self.elements.half_mean_motion_derivative == 0 {
+                "366 days"
+            } else {
+                "30 days, for half_mean_motion_derivative is not 0"
+            };
             format!(
                 "{place}: the record's time, {shown}, is {} the epoch, {}: label it with elements of an \
-                 epoch within 366 days",
+                 epoch within {reach}",
                 apart(time, epoch),
                 date::shown(epoch)
             )

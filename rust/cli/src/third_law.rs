@@ -47,7 +47,7 @@ mod tests {
     use super::*;
 
     fn elements(semi_major_axis: u32, mean_motion: u32) -> Elements {
-        Elements { semi_major_axis, mean_motion, ..Elements::from_bytes(&[0; 48]) }
+        Elements { semi_major_axis, mean_motion, ..Elements::from_bytes(&[0; 52]) }
     }
 
     /// The geostationary orbit, and Oscar-10.

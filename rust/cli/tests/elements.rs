@@ -16,6 +16,7 @@ node_rate -0.1724 degrees a day
 perigee_rate 0.2834 degrees a day
 epoch_revolution 1627
 epoch 1985-08-12 01:45:00
+half_mean_motion_derivative 0.00000000 revolutions a day squared
 ";
 
 #[test]
@@ -84,6 +85,20 @@ fn epochs_as_dates() {
     }
 }
 
+/// A mean motion that changes is told with its sign and every place.
+#[test]
+fn a_mean_motion_that_changes() {
+    let folder = Folder::with_example();
+    for (half, told) in [("-1234", "-0.00001234"), ("1000000", "0.01000000")] {
+        folder.write("elements", changed("derivative 0", &format!("derivative {half}")));
+        let run = folder.label();
+        assert!(run.stdout.starts_with("labelled 960 "), "{run:?}");
+        let line = format!("half_mean_motion_derivative {told} revolutions a day squared");
+        assert_eq!(run.stderr.lines().nth(11), Some(&*line));
+        assert_ne!(folder.read("out"), LABELS);
+    }
+}
+
 /// A malformed file, with no output and over one: the verdict, and the file and line on standard error.
 #[track_caller]
 fn malformed(elements: impl AsRef<[u8]>, line: u32, sentence: &str, told: &str) {
@@ -148,6 +163,13 @@ fn numbers_that_are_not_whole() {
             8,
             format!("node_rate {point} units of 10^-4 degree a day"),
             "are written -1724",
+        ),
+        (
+            "derivative 0",
+            "derivative -.00001234",
+            12,
+            format!("half_mean_motion_derivative {point} units of 10^-8 revolution a day squared"),
+            "-.00001234 revolutions a day squared are written -1234",
         ),
     ] {
         malformed(changed(from, to), line, &sentence, told);
@@ -217,6 +239,12 @@ fn numbers_that_are_too_large() {
             10,
             "epoch_revolution is too large, in revolutions",
         ),
+        (
+            "derivative 0",
+            "derivative 2147483648",
+            12,
+            "half_mean_motion_derivative is too large, in units of 10^-8 revolution a day squared",
+        ),
     ] {
         malformed(changed(from, to), line, sentence, to);
     }
@@ -242,16 +270,17 @@ fn names() {
     ] {
         malformed(changed(from, to), line, &due(name), "found");
     }
+    malformed(without(10), 11, &due("epoch"), "found \"half_mean_motion_derivative 0\"");
     malformed(
         elements() + &lines[10],
-        12,
+        13,
         "only comments may follow the last element",
         "found \"epoch",
     );
     malformed(
-        without(10),
-        11,
-        "epoch is missing: the file ends before it",
+        without(11),
+        12,
+        "half_mean_motion_derivative is missing: the file ends before it",
         "found the end of the file",
     );
     malformed("", 1, "eccentricity is missing: the file ends before it", "the file is empty");
@@ -301,12 +330,12 @@ fn bytes_of_editors() {
 #[test]
 fn files_that_do_not_end_well() {
     let text = elements();
-    malformed(text.trim_end(), 11, "the file ends within this line", "end it with LF");
+    malformed(text.trim_end(), 12, "the file ends within this line", "end it with LF");
     malformed(
         format!("{text}#{}\n", " ".repeat(70_000)),
         1,
         "the file has more than 65,535 bytes",
-        "eleven lines and some comments",
+        "twelve lines and some comments",
     );
 }
 

@@ -28,6 +28,8 @@ fn refused_elements(from: &str, to: &str, verdict: &str, told: &[&str]) {
 fn elements() {
     let axis = "the semi-major axis is not within 6,600 to 100,000 km";
     let rate = "a drift rate is beyond 20 degrees a day";
+    let derivative = "half the mean motion's derivative is beyond 0.01 revolutions a day squared, or brings the \
+                      mean motion below 0.2 revolutions a day within 30 days of the epoch";
     for (from, to, number, sentence, place, fact) in [
         (
             "eccentricity 6100000",
@@ -81,15 +83,49 @@ fn elements() {
             "line 10",
             "epoch_revolution 100000; check its digits",
         ),
+        (
+            "derivative 0",
+            "derivative 1000001",
+            16,
+            derivative,
+            "line 12",
+            "half_mean_motion_derivative 1000001 is 0.01000001 revolutions a day squared; check its digits, it \
+             counts units of 10^-8 revolution a day squared",
+        ),
+        (
+            "derivative 0",
+            "derivative -2147483648",
+            16,
+            derivative,
+            "line 12",
+            "half_mean_motion_derivative -2147483648 is -21.47483648 revolutions a day squared",
+        ),
     ] {
         let told = format!("yurdelmiz: elements, {place}: {sentence}: {fact}");
         refused_elements(from, to, &format!("{number} at 0: {sentence}"), &[&told]);
     }
 }
 
+/// The derivative and the mean motion together.
+#[test]
+fn mean_motions_that_change() {
+    for (mean_motion, half, least) in [
+        (79_999_999, -1_000_000, "0.19999999 revolutions a day 30 days after the epoch"),
+        (79_999_999, 1_000_000, "0.19999999 revolutions a day 30 days before the epoch"),
+        (20_000_000, -1_000_000, "-0.40000000 revolutions a day 30 days after the epoch"),
+    ] {
+        let folder = Folder::with_example();
+        let text = changed("205890000", &mean_motion.to_string());
+        folder.write("elements", text.replace("derivative 0", &format!("derivative {half}")));
+        let run = folder.label();
+        assert!(run.stdout.starts_with("refused 16 at 0: "), "{run:?}");
+        run.fails(1).tells(&["yurdelmiz: elements, lines 7 and 12: ", least, "check their digits"]);
+    }
+}
+
 const TIME: &str =
     "the time, or the epoch, is not within 1900 March 1 to 2100 February 28, or they are \
-                    over 366 days apart";
+                    over 366 days apart, or over 30 where the mean motion's derivative is not 0";
 
 #[test]
 fn epochs() {
@@ -147,14 +183,21 @@ fn records() {
 #[test]
 fn a_second_too_many() {
     let epoch = -138_406_500i64;
-    for (way, told) in [(1, "366 days 00:00:01 after"), (-1, "366 days 00:00:01 before")] {
-        let folder = Folder::with_example();
-        let record = |time: i64| [&time.to_le_bytes()[..], &[0; 8]].concat();
-        folder.write("telemetry", record(epoch + way * 31_622_400));
-        folder.label().fails(0);
-        std::fs::remove_file(folder.path("out")).unwrap();
-        folder.write("telemetry", record(epoch + way * 31_622_401));
-        refused(&folder, &format!("8 at 0: {TIME}"), &[told]);
+    let changing = "epoch within 30 days, for half_mean_motion_derivative is not 0";
+    for (half, days, within) in
+        [("0", 366, "epoch within 366 days"), ("1", 30, changing), ("-1", 30, changing)]
+    {
+        for (way, told) in [(1, "after"), (-1, "before")] {
+            let folder = Folder::with_example();
+            let record = |time: i64| [&time.to_le_bytes()[..], &[0; 8]].concat();
+            folder.write("elements", changed("derivative 0", &format!("derivative {half}")));
+            folder.write("telemetry", record(epoch + way * days * 86_400));
+            folder.label().fails(0);
+            std::fs::remove_file(folder.path("out")).unwrap();
+            folder.write("telemetry", record(epoch + way * (days * 86_400 + 1)));
+            let told = format!("{days} days 00:00:01 {told}");
+            refused(&folder, &format!("8 at 0: {TIME}"), &[&told, within]);
+        }
     }
 }
 

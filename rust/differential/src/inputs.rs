@@ -8,7 +8,10 @@ use crate::random::Random;
 
 pub const TIME_MIN: i64 = -2_834_956_800;
 pub const TIME_MAX: i64 = 3_476_476_799;
+
+/// The most seconds from the epoch, with a mean motion that stays and with one that changes.
 const SPAN_MAX: i64 = 31_622_400;
+const CHANGING_SPAN_MAX: i64 = 2_592_000;
 
 /// Any number: uniform, small, or next to an edge.
 pub fn number(random: &mut Random, edges: &[u32]) -> u32 {
@@ -100,8 +103,23 @@ fn least_axis(eccentricity: u32) -> i64 {
     least.max(6_600_000)
 }
 
+/// Half the derivative of the mean motion: none as often as one, and that at times next to none.
+fn accepted_half_derivative(random: &mut Random) -> i32 {
+    match random.below(8) {
+        0..=3 => 0,
+        4 => random.between(-20, 20) as i32,
+        _ => within(random, -1_000_000, 1_000_000) as i32,
+    }
+}
+
+/// The least mean motion that half its derivative allows.
+fn least_motion(half_derivative: i32) -> i64 {
+    20_000_000 + 60 * i64::from(half_derivative).abs()
+}
+
 fn accepted_elements(random: &mut Random) -> Elements {
     let eccentricity = accepted_eccentricity(random);
+    let half_derivative = accepted_half_derivative(random);
     Elements {
         eccentricity,
         semi_major_axis: within(random, least_axis(eccentricity), 100_000_000) as u32,
@@ -109,18 +127,20 @@ fn accepted_elements(random: &mut Random) -> Elements {
         node: angle(random),
         argument_of_perigee: angle(random),
         mean_anomaly: angle(random),
-        mean_motion: within(random, 20_000_000, 1_700_000_000) as u32,
+        mean_motion: within(random, least_motion(half_derivative), 1_700_000_000) as u32,
         node_rate: within(random, -200_000, 200_000) as i32,
         perigee_rate: within(random, -200_000, 200_000) as i32,
         epoch_revolution: within(random, 0, 99_999) as u32,
         epoch: within(random, TIME_MIN, TIME_MAX),
+        half_mean_motion_derivative: half_derivative,
     }
 }
 
 /// Takes one element out of range, or to its edge.
 fn damage(random: &mut Random, elements: &mut Elements) {
     let rates = [200_000_u32, 200_001, 200_000_u32.wrapping_neg(), 200_001_u32.wrapping_neg()];
-    match random.below(8) {
+    let half_derivatives = [1_000_000, 1_000_000_u32.wrapping_neg(), 1 << 31];
+    match random.below(10) {
         0 => elements.eccentricity = number(random, &[9_000_000, 10_000_000]),
         1 => elements.semi_major_axis = number(random, &[6_600_000, 100_000_000]),
         2 => {
@@ -131,6 +151,8 @@ fn damage(random: &mut Random, elements: &mut Elements) {
         5 if random.one_in(2) => elements.node_rate = number(random, &rates) as i32,
         5 => elements.perigee_rate = number(random, &rates) as i32,
         6 => elements.epoch_revolution = number(random, &[99_999]),
+        7 => elements.half_mean_motion_derivative = number(random, &half_derivatives) as i32,
+        8 => elements.mean_motion = (least_motion(elements.half_mean_motion_derivative) - 1) as u32,
         _ => elements.epoch = any_time(random),
     }
 }
@@ -158,13 +180,22 @@ pub fn any_time(random: &mut Random) -> i64 {
     }
 }
 
-/// A time that labelling with this epoch would take, where there is one.
-pub fn near_time(random: &mut Random, epoch: i64) -> i64 {
+/// The first and the last time that go with these elements, whose epoch is in range.
+fn times(elements: &Elements) -> (i64, i64) {
+    let span = match elements.half_mean_motion_derivative {
+        0 => SPAN_MAX,
+        _ => CHANGING_SPAN_MAX,
+    };
+    ((elements.epoch - span).max(TIME_MIN), (elements.epoch + span).min(TIME_MAX))
+}
+
+/// A time that labelling with these elements would take, where there is one.
+pub fn near_time(random: &mut Random, elements: &Elements) -> i64 {
+    let epoch = elements.epoch;
     if !(TIME_MIN..=TIME_MAX).contains(&epoch) {
         return any_time(random);
     }
-    let low = (epoch - SPAN_MAX).max(TIME_MIN);
-    let high = (epoch + SPAN_MAX).min(TIME_MAX);
+    let (low, high) = times(elements);
     match random.below(4) {
         0 => within(random, low, high),
         1 => (epoch + random.between(-100_000, 100_000)).clamp(low, high),
@@ -173,18 +204,20 @@ pub fn near_time(random: &mut Random, epoch: i64) -> i64 {
 }
 
 /// A time for these elements, now and then one that is refused.
-pub fn time(random: &mut Random, epoch: i64) -> i64 {
+pub fn time(random: &mut Random, elements: &Elements) -> i64 {
+    let span = random.pick(&[SPAN_MAX, CHANGING_SPAN_MAX]) + random.between(0, 1);
     match random.below(16) {
         0 => any_time(random),
-        1 => epoch.saturating_add(random.pick(&[SPAN_MAX, SPAN_MAX + 1])),
-        2 => epoch.saturating_sub(random.pick(&[SPAN_MAX, SPAN_MAX + 1])),
-        _ => near_time(random, epoch),
+        1 => elements.epoch.saturating_add(span),
+        2 => elements.epoch.saturating_sub(span),
+        _ => near_time(random, elements),
     }
 }
 
 /// Accepted elements and two times for them, of which the second is not the earlier. The first is
-/// next to a passage of the mean node, before the epoch or after it. Often the perigee drifts as fast
-/// as is accepted, either way, and the mean motion is the least.
+/// next to a passage of the mean node, before the epoch or after it, often at the end of the times
+/// accepted. Often the perigee drifts as fast as is accepted, either way, and the mean motion is the
+/// least, at the epoch or, where it changes, at that end.
 pub fn node_passage(random: &mut Random) -> (Elements, [i64; 2]) {
     const TURN: f64 = 4_294_967_296.0;
 
@@ -193,19 +226,23 @@ pub fn node_passage(random: &mut Random) -> (Elements, [i64; 2]) {
         elements.perigee_rate = random.pick(&[-200_000, 200_000]);
     }
     if random.one_in(4) {
-        elements.mean_motion = 20_000_000;
+        elements.mean_motion = least_motion(elements.half_mean_motion_derivative) as u32;
     }
-    let low = (elements.epoch - SPAN_MAX).max(TIME_MIN);
-    let high = (elements.epoch + SPAN_MAX).min(TIME_MAX);
+    let (low, high) = times(&elements);
 
-    // The mean argument of latitude at the epoch, and what it gains in a second.
+    // The mean argument of latitude at the epoch, what it gains in a second, and by how much more in
+    // the square of the seconds.
     let at_epoch = f64::from(elements.mean_anomaly) + f64::from(elements.argument_of_perigee);
     let by_motion = f64::from(elements.mean_motion) * TURN / 8_640_000_000_000.0;
     let by_drift = f64::from(elements.perigee_rate) * TURN / 3_600_000.0 / 86_400.0;
     let gain = by_motion + by_drift;
-    let somewhere = (random.between(low, high) - elements.epoch) as f64;
-    let turns = ((at_epoch + somewhere * gain) / TURN).round();
-    let passage = elements.epoch + ((turns * TURN - at_epoch) / gain).floor() as i64;
+    let half = f64::from(elements.half_mean_motion_derivative) * 1_024.0 / 177_978_515_625.0;
+    let somewhere = (within(random, low, high) - elements.epoch) as f64;
+    let turns = ((at_epoch + somewhere * (gain + somewhere * half)) / TURN).round();
+    // The root of half·x² + gain·x = missing at which the latitude rises.
+    let missing = turns * TURN - at_epoch;
+    let rise = (gain * gain + 4.0 * half * missing).max(0.0).sqrt();
+    let passage = elements.epoch + (2.0 * missing / (gain + rise)).floor() as i64;
     let time = (passage + random.between(-1, 2)).clamp(low, high);
 
     let later = match random.below(4) {
@@ -261,9 +298,9 @@ pub fn telemetry(random: &mut Random, elements: &Elements) -> Vec<u8> {
     let mut bytes = Vec::with_capacity(records * 16);
     for number in 0..records {
         let time = if bad.is_some_and(|bad| number >= bad && random.one_in(2)) {
-            time(random, elements.epoch)
+            time(random, elements)
         } else {
-            near_time(random, elements.epoch)
+            near_time(random, elements)
         };
         record(random, time, &mut bytes);
     }

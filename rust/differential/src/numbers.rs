@@ -51,12 +51,13 @@ pub fn library_elements(elements: &Elements) -> yurdelmiz::Elements {
         perigee_rate: elements.perigee_rate,
         epoch_revolution: elements.epoch_revolution,
         epoch: elements.epoch,
+        half_mean_motion_derivative: elements.half_mean_motion_derivative,
     }
 }
 
 pub fn position(random: &mut Random, report: &mut Report) {
     let elements = inputs::elements(random);
-    let time = inputs::time(random, elements.epoch);
+    let time = inputs::time(random, &elements);
     let library = yurdelmiz::position(&library_elements(&elements), time)
         .map(|state| {
             let (anomaly, celestial, fixed) = (state.anomaly, state.celestial, state.earth_fixed);

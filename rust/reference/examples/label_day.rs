@@ -32,6 +32,7 @@ fn parse(text: &str) -> Result<Elements, Box<dyn Error>> {
         perigee_rate: value(&values, "perigee_rate")?,
         epoch_revolution: value(&values, "epoch_revolution")?,
         epoch: value(&values, "epoch")?,
+        half_mean_motion_derivative: value(&values, "half_mean_motion_derivative")?,
     })
 }
 

@@ -47,7 +47,7 @@ pub struct Malformed {
     pub fault: Fault,
     /// From 1.
     pub line: u32,
-    /// The number from 0 of the element that was due, 11 behind the last.
+    /// The number from 0 of the element that was due, 12 behind the last.
     pub element: u32,
 }
 
@@ -56,7 +56,7 @@ const I32: RangeInclusive<i64> = i32::MIN as i64..=i32::MAX as i64;
 const I64: RangeInclusive<i64> = i64::MIN..=i64::MAX;
 
 /// The names in their order, and what the types hold.
-pub const FIELDS: [(&str, RangeInclusive<i64>); 11] = [
+pub const FIELDS: [(&str, RangeInclusive<i64>); 12] = [
     ("eccentricity", U32),
     ("semi_major_axis", U32),
     ("inclination", U32),
@@ -68,6 +68,7 @@ pub const FIELDS: [(&str, RangeInclusive<i64>); 11] = [
     ("perigee_rate", I32),
     ("epoch_revolution", U32),
     ("epoch", I64),
+    ("half_mean_motion_derivative", I32),
 ];
 
 /// Reads a file.
@@ -107,6 +108,7 @@ fn elements_of(values: [i64; FIELDS.len()]) -> Elements {
         perigee_rate: values[8] as i32,
         epoch_revolution: values[9] as u32,
         epoch: values[10],
+        half_mean_motion_derivative: values[11] as i32,
     }
 }
 
@@ -183,6 +185,7 @@ node_rate -1724
 perigee_rate 2834
 epoch_revolution 1627
 epoch -138406500
+half_mean_motion_derivative -35
 ";
 
     /// The fault, line and element of Oscar-10's file with the one `old` replaced.
@@ -210,6 +213,7 @@ epoch -138406500
             perigee_rate: 2_834,
             epoch_revolution: 1_627,
             epoch: -138_406_500,
+            half_mean_motion_derivative: -35,
         };
         assert_eq!(parse(OSCAR_10.as_bytes()), Ok(elements));
 
@@ -227,6 +231,8 @@ epoch -138406500
             ("2834", "2147483647", "2147483648", 8),
             ("-138406500", "-9223372036854775808", "-9223372036854775809", 10),
             ("-138406500", "9223372036854775807", "9223372036854775808", 10),
+            ("-35", "-2147483648", "-2147483649", 11),
+            ("-35", "2147483647", "2147483648", 11),
         ];
         for (old, edge, beyond, element) in cases {
             assert!(parse(OSCAR_10.replace(old, edge).as_bytes()).is_ok(), "{edge}");
@@ -248,7 +254,7 @@ epoch -138406500
             assert_eq!(fault("26100000", value), (Fault::TooLarge, 2, 1), "{value}");
         }
         assert_eq!(fault("2834\n", "2834\r\n"), (Fault::ControlByte, 9, 8));
-        assert_eq!(fault("500\n", "500\nepoch 0\n"), (Fault::Extra, 12, 11));
+        assert_eq!(fault("-35\n", "-35\nepoch 0\n"), (Fault::Extra, 13, 12));
     }
 
     #[test]
@@ -257,8 +263,9 @@ epoch -138406500
         assert_eq!(malformed(b"\n# none\n"), (Fault::Missing, 3, 0));
         assert_eq!(malformed(b"eccen"), (Fault::Unended, 1, 0));
         assert_eq!(malformed(b"eccentricity 1\nsemi_major_axis "), (Fault::Unended, 2, 1));
-        assert_eq!(fault("500\n", "500"), (Fault::Unended, 11, 10));
-        assert_eq!(fault("500\n", "500\n# none"), (Fault::Unended, 12, 11));
+        assert_eq!(fault("-35\n", "-35"), (Fault::Unended, 12, 11));
+        assert_eq!(fault("-35\n", "-35\n# none"), (Fault::Unended, 13, 12));
+        assert_eq!(fault("half_mean_motion_derivative -35\n", ""), (Fault::Missing, 12, 11));
 
         let mut longest = OSCAR_10.as_bytes().to_vec();
         longest.resize(BYTES_MAX, b'\n');

@@ -7,8 +7,9 @@ use crate::sine::{cosine, sine, Angle, HALF_TURN, ONE};
 /// Earliest and latest time and epoch: 1900 Mar 1 to 2100 Feb 28.
 const TIMES: std::ops::RangeInclusive<i64> = -2_834_956_800..=3_476_476_799;
 
-/// The most seconds between epoch and time.
+/// The most seconds between epoch and time, where the mean motion stays and where it changes.
 const SPAN_MAX: u64 = 31_622_400;
+const CHANGING_SPAN_MAX: u64 = 2_592_000;
 
 /// n·Δ over this is in revolutions: 86,400 seconds a day, and 10^8 for the unit of n.
 const REVOLUTION: i64 = 8_640_000_000_000;
@@ -30,7 +31,7 @@ pub struct Elements {
     pub argument_of_perigee: Angle,
     /// M0, at the epoch.
     pub mean_anomaly: Angle,
-    /// n, in 10^-8 revolutions a day.
+    /// n, at the epoch, in 10^-8 revolutions a day.
     pub mean_motion: u32,
     /// In 10^-4 degree a day.
     pub node_rate: i32,
@@ -39,6 +40,9 @@ pub struct Elements {
     pub epoch_revolution: u32,
     /// Seconds from 1990 Jan 0.0.
     pub epoch: i64,
+    /// d, half the first derivative of the mean motion, as two-line elements have it, in 10^-8
+    /// revolutions a day squared.
+    pub half_mean_motion_derivative: i32,
 }
 
 /// A point, in metres.
@@ -72,7 +76,7 @@ pub fn check_time(time: i64) -> Result<(), Refusal> {
 }
 
 impl Elements {
-    /// Refusals 1 to 7, then 8 for the epoch.
+    /// Refusals 1 to 7, 16, then 8 for the epoch.
     pub fn check(&self) -> Result<(), Refusal> {
         if self.eccentricity > ECCENTRICITY_MAX {
             return Err(Refusal::Eccentricity);
@@ -98,13 +102,21 @@ impl Elements {
         if self.epoch_revolution > 99_999 {
             return Err(Refusal::EpochRevolution);
         }
+        let size = self.half_mean_motion_derivative.unsigned_abs();
+        if size > 1_000_000 || self.mean_motion < 20_000_000 + 60 * size {
+            return Err(Refusal::MeanMotionDerivative);
+        }
         check_time(self.epoch)
     }
 
     /// Refusal 8 for a time, the epoch being in range.
     fn elapsed(&self, time: i64) -> Result<i64, Refusal> {
         check_time(time)?;
-        if time.abs_diff(self.epoch) > SPAN_MAX {
+        let most = match self.half_mean_motion_derivative {
+            0 => SPAN_MAX,
+            _ => CHANGING_SPAN_MAX,
+        };
+        if time.abs_diff(self.epoch) > most {
             return Err(Refusal::Time);
         }
         Ok(time - self.epoch)
@@ -116,8 +128,8 @@ impl Elements {
         let whole = product.div_euclid(REVOLUTION);
         let rest = product.rem_euclid(REVOLUTION);
         let part = (rest << 17) / 263_671_875;
-        let anomaly = i64::from(self.mean_anomaly) + part;
-        let a = whole * TURN + part;
+        let a = whole * TURN + part + change(self.half_mean_motion_derivative, elapsed);
+        let anomaly = i64::from(self.mean_anomaly) + a;
         let b = drift(self.perigee_rate, elapsed);
         let at_epoch = i64::from(self.mean_anomaly) + i64::from(self.argument_of_perigee);
         let revolution = i64::from(self.epoch_revolution) + (at_epoch + a + b).div_euclid(TURN)
@@ -150,11 +162,18 @@ impl Elements {
         })
     }
 
-    /// State at `time`; refusals 1 to 8.
+    /// State at `time`; refusals 1 to 8 and 16.
     pub fn state(&self, time: i64) -> Result<State, Refusal> {
         self.check()?;
         self.checked_state(time)
     }
+}
+
+/// What the change of the mean motion adds over `elapsed` seconds, before wrapping.
+fn change(half_derivative: i32, elapsed: i64) -> i64 {
+    let elapsed = i128::from(elapsed);
+    let product = (i128::from(half_derivative) * elapsed * elapsed) << 10;
+    product.div_euclid(177_978_515_625) as i64
 }
 
 /// The drift at `rate` over `elapsed` seconds, before wrapping.

@@ -29,6 +29,9 @@ pub enum Refusal {
     Labels = 13,
     /// Position or Sun component out of range.
     Component = 14,
+    /// Half the mean motion's derivative beyond ±1,000,000, or the mean motion less 60 times its size
+    /// below 20,000,000.
+    MeanMotionDerivative = 16,
 }
 
 impl Refusal {

@@ -37,6 +37,7 @@ fn oscar_10() -> Elements {
         perigee_rate: 2_834,
         epoch_revolution: 1_627,
         epoch: EXAMPLE_TIME,
+        half_mean_motion_derivative: 0,
     }
 }
 

@@ -23,6 +23,7 @@ const ELEMENTS: Elements = Elements {
     perigee_rate: 0,
     epoch_revolution: 60,
     epoch: 0,
+    half_mean_motion_derivative: 0,
 };
 
 #[test]

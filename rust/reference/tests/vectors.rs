@@ -22,6 +22,7 @@ fn elements(elements: Elements) -> reference::orbit::Elements {
         perigee_rate: elements.perigee_rate,
         epoch_revolution: elements.epoch_revolution,
         epoch: elements.epoch,
+        half_mean_motion_derivative: elements.half_mean_motion_derivative,
     }
 }
 

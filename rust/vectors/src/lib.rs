@@ -1,10 +1,10 @@
-//! Runs the lines of vectors/K03.txt against a labeller.
+//! Runs the lines of vectors/K08.txt against a labeller.
 
 use std::fmt::Display;
 use std::str::{FromStr, SplitWhitespace};
 
 /// The vectors; the head of the file says what a line holds.
-const VECTORS: &str = include_str!("../../../vectors/K03.txt");
+const VECTORS: &str = include_str!("../../../vectors/K08.txt");
 
 /// What the output holds before labelling.
 const FILL: u8 = 0xaa;
@@ -25,6 +25,7 @@ pub struct Elements {
     pub perigee_rate: i32,
     pub epoch_revolution: u32,
     pub epoch: i64,
+    pub half_mean_motion_derivative: i32,
 }
 
 /// What the vectors ask. Answers are in the order of a line; a refusal is its number.
@@ -80,6 +81,7 @@ impl<'a> Inputs<'a> {
             perigee_rate: self.number(),
             epoch_revolution: self.number(),
             epoch: self.number(),
+            half_mean_motion_derivative: self.number(),
         }
     }
 }

@@ -18,7 +18,7 @@ pub struct Elements {
     pub argument_of_perigee: u32,
     /// At the epoch, an angle.
     pub mean_anomaly: u32,
-    /// In 10^-8 revolutions a day.
+    /// At the epoch, in 10^-8 revolutions a day.
     pub mean_motion: u32,
     /// The drift of the node, in 10^-4 degree a day.
     pub node_rate: i32,
@@ -28,6 +28,9 @@ pub struct Elements {
     pub epoch_revolution: u32,
     /// The time at which the other elements hold.
     pub epoch: i64,
+    /// Half the first derivative of the mean motion, as two-line elements have it, in 10^-8
+    /// revolutions a day squared.
+    pub half_mean_motion_derivative: i32,
 }
 
 impl Elements {
@@ -46,6 +49,7 @@ impl Elements {
             self.node_rate as u32,
             self.perigee_rate as u32,
             self.epoch_revolution,
+            self.half_mean_motion_derivative as u32,
         ];
         for (to, word) in bytes[8..].chunks_exact_mut(4).zip(words) {
             to.copy_from_slice(&word.to_le_bytes());
@@ -67,6 +71,7 @@ impl Elements {
             node_rate: i32_at(bytes, 36),
             perigee_rate: i32_at(bytes, 40),
             epoch_revolution: u32_at(bytes, 44),
+            half_mean_motion_derivative: i32_at(bytes, 48),
         }
     }
 }
@@ -82,6 +87,8 @@ mod tests {
         let elements = Elements::from_bytes(&bytes);
         assert_eq!(elements.to_bytes(), bytes);
         assert_eq!(elements.eccentricity, u32::from_le_bytes([208, 209, 210, 211]));
+        let derivative = i32::from_le_bytes([248, 249, 250, 251]);
+        assert_eq!(elements.half_mean_motion_derivative, derivative);
         assert!(elements.node_rate < 0 && elements.perigee_rate < 0 && elements.epoch < 0);
     }
 }

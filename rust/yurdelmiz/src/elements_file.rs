@@ -31,11 +31,13 @@ pub enum Element {
     EpochRevolution,
     /// `epoch`
     Epoch,
+    /// `half_mean_motion_derivative`
+    HalfMeanMotionDerivative,
 }
 
 impl Element {
     /// Every element, in the order of the file.
-    pub const ALL: [Element; 11] = [
+    pub const ALL: [Element; 12] = [
         Element::Eccentricity,
         Element::SemiMajorAxis,
         Element::Inclination,
@@ -47,6 +49,7 @@ impl Element {
         Element::PerigeeRate,
         Element::EpochRevolution,
         Element::Epoch,
+        Element::HalfMeanMotionDerivative,
     ];
 
     /// The name that begins its line.
@@ -63,6 +66,7 @@ impl Element {
             Element::PerigeeRate => "perigee_rate",
             Element::EpochRevolution => "epoch_revolution",
             Element::Epoch => "epoch",
+            Element::HalfMeanMotionDerivative => "half_mean_motion_derivative",
         }
     }
 
@@ -79,6 +83,7 @@ impl Element {
             Element::NodeRate | Element::PerigeeRate => "units of 10^-4 degree a day",
             Element::EpochRevolution => "revolutions",
             Element::Epoch => "seconds from 1989 December 31, 0h",
+            Element::HalfMeanMotionDerivative => "units of 10^-8 revolution a day squared",
         }
     }
 }

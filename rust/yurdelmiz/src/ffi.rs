@@ -23,7 +23,7 @@ pub const MALFORMED_MISSING: u32 = 108;
 pub const MALFORMED_TOO_LONG: u32 = 109;
 
 /// Length of `elements`.
-pub const ELEMENTS_BYTES: usize = 48;
+pub const ELEMENTS_BYTES: usize = 52;
 /// Length of the answer of [`yurdelmiz_kepler`].
 pub const KEPLER_BYTES: usize = 8;
 /// Length of the answer of [`yurdelmiz_sun`].

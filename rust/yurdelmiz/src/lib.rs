@@ -19,6 +19,7 @@
 //! perigee_rate 2834
 //! epoch_revolution 1627
 //! epoch -138406500
+//! half_mean_motion_derivative 0
 //! ",
 //! )?;
 //! let sample = Sample { time: elements.epoch + 86_400, volts: 14.0, amperes: 0.5 };

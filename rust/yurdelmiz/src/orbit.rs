@@ -35,7 +35,7 @@ pub struct State {
     pub earth_fixed: Position,
 }
 
-/// The satellite at a time; refusals 1 to 8.
+/// The satellite at a time; refusals 1 to 8 and 16.
 pub fn position(elements: &Elements, time: i64) -> Result<State, Refusal> {
     let elements = elements.to_bytes();
     let mut answer = [0; ffi::POSITION_BYTES];

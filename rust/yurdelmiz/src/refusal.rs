@@ -20,7 +20,8 @@ pub enum Refusal {
     DriftRate,
     /// 7: above 99,999.
     EpochRevolution,
-    /// 8: epoch or time outside -2,834,956,800 to 3,476,476,799, or over 31,622,400 s apart.
+    /// 8: epoch or time outside -2,834,956,800 to 3,476,476,799, or over 31,622,400 s apart, or over
+    /// 2,592,000 s where the mean motion's derivative is not 0.
     Time,
     /// 10: no multiple of 16 bytes, or over 1,024 records.
     TelemetryLength,
@@ -32,10 +33,13 @@ pub enum Refusal {
     Labels,
     /// 14: of a position beyond 200,000,000 metres, or of the Sun beyond 2^30, either way.
     Component,
+    /// 16: half of it beyond 1,000,000 units of 10^-8 revolution a day squared either way, or the mean
+    /// motion less 60 times its size below 20,000,000 units.
+    MeanMotionDerivative,
 }
 
 /// Each refusal with its number and its sentence.
-const TABLE: [(Refusal, u32, &str); 13] = [
+const TABLE: [(Refusal, u32, &str); 14] = [
     (Refusal::Eccentricity, 1, "the eccentricity is above 0.9"),
     (Refusal::SemiMajorAxis, 2, "the semi-major axis is not within 6,600 to 100,000 km"),
     (Refusal::PerigeeDistance, 3, "the perigee is less than 6,478 km from the Earth's centre"),
@@ -43,12 +47,13 @@ const TABLE: [(Refusal, u32, &str); 13] = [
     (Refusal::MeanMotion, 5, "the mean motion is not within 0.2 to 17 revolutions a day"),
     (Refusal::DriftRate, 6, "a drift rate is beyond 20 degrees a day"),
     (Refusal::EpochRevolution, 7, "the epoch's revolution is above 99,999"),
-    (Refusal::Time, 8, "the time, or the epoch, is not within 1900 March 1 to 2100 February 28, or they are over 366 days apart"),
+    (Refusal::Time, 8, "the time, or the epoch, is not within 1900 March 1 to 2100 February 28, or they are over 366 days apart, or over 30 where the mean motion's derivative is not 0"),
     (Refusal::TelemetryLength, 10, "the telemetry is not a whole number of 16-byte records, or has over 1,024"),
     (Refusal::OutputLength, 11, "the output has no room for the labels"),
     (Refusal::Trailer, 12, "the label file's length and its trailer do not fit"),
     (Refusal::Labels, 13, "a label breaks the rules, or the trailer's counts are not those of the labels"),
     (Refusal::Component, 14, "a position or the Sun's direction is out of range"),
+    (Refusal::MeanMotionDerivative, 16, "half the mean motion's derivative is beyond 0.01 revolutions a day squared, or brings the mean motion below 0.2 revolutions a day within 30 days of the epoch"),
 ];
 
 impl Refusal {

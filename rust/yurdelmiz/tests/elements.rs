@@ -14,6 +14,7 @@ node_rate -1724
 perigee_rate 2834
 epoch_revolution 1627
 epoch -138406500
+half_mean_motion_derivative -35
 ";
 
 fn fault(text: &str) -> (Fault, u32, Option<Element>) {
@@ -35,6 +36,7 @@ fn elements_are_those_of_the_file() {
         perigee_rate: 2_834,
         epoch_revolution: 1_627,
         epoch: -138_406_500,
+        half_mean_motion_derivative: -35,
     };
     assert_eq!(parse_elements(TEXT.as_bytes()), Ok(elements));
     let spaced = format!("# a remark\n\n{}\n# the end\n", TEXT.replace('\n', "\n\n"));
@@ -50,8 +52,8 @@ fn names_are_those_of_the_file() {
             .filter(|line| !line.starts_with(&format!("{} ", element.name())))
             .map(|line| format!("{line}\n"))
             .collect();
-        assert_eq!(without.lines().count(), 10);
-        let last = element == Element::Epoch;
+        assert_eq!(without.lines().count(), 11);
+        let last = element == Element::HalfMeanMotionDerivative;
         let expected = if last { Fault::Missing } else { Fault::Name };
         assert_eq!(fault(&without), (expected, number as u32 + 1, Some(element)));
     }
@@ -70,8 +72,11 @@ fn faults() {
     assert_eq!(changed("26100000", "4294967296"), (Fault::TooLarge, 2, axis));
     assert_eq!(changed("semi_major_axis ", "axis "), (Fault::Name, 2, axis));
     assert_eq!(changed("semi_major_axis ", "semi_major_axis\t"), (Fault::ControlByte, 2, axis));
-    assert_eq!(fault(TEXT.trim_end()), (Fault::Unended, 11, Some(Element::Epoch)));
-    assert_eq!(fault(&format!("{TEXT}epoch 0\n")), (Fault::Extra, 12, None));
+    let last = Some(Element::HalfMeanMotionDerivative);
+    assert_eq!(changed("-35", "2147483648"), (Fault::TooLarge, 12, last));
+    assert_eq!(changed("-35", "-.00000035"), (Fault::DecimalPoint, 12, last));
+    assert_eq!(fault(TEXT.trim_end()), (Fault::Unended, 12, last));
+    assert_eq!(fault(&format!("{TEXT}epoch 0\n")), (Fault::Extra, 13, None));
     assert_eq!(fault(""), (Fault::Missing, 1, Some(Element::Eccentricity)));
     let long = format!("{TEXT}#{:65535}\n", "");
     assert_eq!(fault(&long), (Fault::TooLong, 1, Some(Element::Eccentricity)));

@@ -1,8 +1,7 @@
 -- `orbit::state_at` meets its contract. Assumes nothing.
 use borrow.Author.Needs.{needs}
 use mathlib.Core.Path.{_≡_, _∙_, ap, subst}
-use Prim.Native.Nat.{ℕ, _^_, _<_}
-use native.Mathlib.Omega.{arith}
+use Prim.Native.Nat.{ℕ}
 use mir.Syntax.{w32, w64}
 use mir.Val.{SFits, toZ, ofZ}
 use mir.Facts.{toZ-ofZ}
@@ -13,16 +12,13 @@ use Rattle.trig.specs.declared.Sines.{Sines}
 use Rattle.kepler.specs.Contract.{AnomalyAt}
 use Rattle.kepler.specs.declared.Anomaly.{Anomaly}
 use Rattle.orbit.specs.Contract.{PhaseAt}
-use Rattle.orbit.specs.Placement.{inPlane, perigeeAt, celestialAt, anomalyAt}
+use Rattle.orbit.specs.Placement.{inPlane, perigeeAt, celestialAt, anomalyOf}
+use Rattle.orbit.specs.Turns.{meanAnomaly}
 use Rattle.orbit.proofs.Accepted.{Accepted, accepted-at}
 use Rattle.orbit.proofs.Distances.{minor-le}
 use Rattle.orbit.proofs.Placements.{anomaly-is, state-is, state-at}
 use Rattle.orbit.proofs.state_at.Statement.{statement}
 use Rattle.orbit.proofs.state_at.Tie as tie
-
--- ---- what owning the elements, and their checks, tell
-anomaly-held : (s : tie.Start) → s .args .elements .«mean_anomaly» < 2 ^ 32
-anomaly-held s = omega arith
 
 elements-accepted : (s : tie.Start) → Accepted (s .args .elements)
 elements-accepted s = accepted-at (s .args .elements) (s .args .time) (s .pre .0) .elements
@@ -51,7 +47,7 @@ start c = c .before .before .before
 eccentric-anomaly-requires : tie.Need-eccentric-anomaly-requires
 eccentric-anomaly-requires c κs = elements-accepted (c .before .before) .eccentricity-le
 
-anomaly-at : (c : tie.After-eccentric-anomaly) → let a = start c .args in c .eccentric-anomaly .result ≡ anomalyAt (a .elements) (a .time)
+anomaly-at : (c : tie.After-eccentric-anomaly) → let a = start c .args in c .eccentric-anomaly .result ≡ anomalyOf (a .elements) (meanAnomaly (a .elements) (a .time))
 anomaly-at c =
     anomaly-is (start c .args .elements) (start c .args .time) _
     (subst (λ (M : ℕ). AnomalyAt (start c .args .elements .eccentricity) M (c .eccentric-anomaly .result)) (phase-at (c .before .before) .anomaly-is) (c .eccentric-anomaly .ensures))
@@ -59,7 +55,7 @@ anomaly-at c =
 of-requires-2 : tie.Need-of-requires-2
 of-requires-2 c κs = search needs
 
-sines-at : (c : tie.After-of2) → let a = start (c .before) .args in SinesAt (anomalyAt (a .elements) (a .time) .angle) (c .of2 .result)
+sines-at : (c : tie.After-of2) → let a = start (c .before) .args in SinesAt (anomalyOf (a .elements) (meanAnomaly (a .elements) (a .time)) .angle) (c .of2 .result)
 sines-at c = subst (λ (r : Anomaly). SinesAt (r .angle) (c .of2 .result)) (anomaly-at (c .before)) (c .of2 .ensures)
 
 -- its cosine and its sine, as the machine holds them
@@ -89,7 +85,7 @@ radius-requires c κs =
     let a = elements-accepted (start (c .before .before .before .before .before)) in
     search needs
 
-position-is : (c : tie.After-celestial) → let a = start (c .before .before .before .before .before) .args in c .celestial .result ≡ celestialAt (a .elements) (a .time) (anomalyAt (a .elements) (a .time) .angle)
+position-is : (c : tie.After-celestial) → let a = start (c .before .before .before .before .before) .args in c .celestial .result ≡ celestialAt (a .elements) (a .time) (anomalyOf (a .elements) (meanAnomaly (a .elements) (a .time)) .angle)
 unfolding celestialAt inPlane
 position-is c =
     let f = c .before .before .before .before in
@@ -109,7 +105,7 @@ returns c =
     let p = n .before .before in
     let phase = phase-at p in
     let ρ = c .before .radius in
-    state-at el t (anomaly-held s) (s .pre .0)
+    state-at el t (s .pre .0)
     (state-is el t (anomaly-at n) (toZ-ofZ (revolution-fits p) ∙ phase .revolution-is) (phase .anomaly-is)
     (position-is (c .before .before)) (read-back (ρ .result) (ρ .ok) ∙ rw (cosine-is (sines-at f)) at (ρ .ensures)) (s .pre .2 .angle-is))
 

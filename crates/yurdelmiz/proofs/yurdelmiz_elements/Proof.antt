@@ -12,7 +12,7 @@ use Rattle.yurdelmiz.proofs.yurdelmiz_elements.Tie as tie
 
 returns : tie.Need-returns
 unfolding elementsCall
-returns c = bad-buffer _ _ _ (ne-eqb _ 48 (c .if1 .taken))
+returns c = bad-buffer _ _ _ (ne-eqb _ 52 (c .if1 .taken))
 
 fault-place-requires : tie.Need-fault-place-requires
 fault-place-requires c κs =
@@ -23,14 +23,14 @@ returns-2 : tie.Need-returns-2
 unfolding elementsCall
 returns-2 c =
     let p = c .before .before .before .before .before .before in
-    ends-refused _ _ _ (rw (c .before .before .fault-number .ensures, c .before .fault-place .ensures) at (c .status-at .ensures)) (eq-eqb _ 48 (p .before .if1 .left)) (ap elementsOutcome (sym (p .parse .ensures) ∙ c .before .before .before .before .parsed .given .1))
+    ends-refused _ _ _ (rw (c .before .before .fault-number .ensures, c .before .fault-place .ensures) at (c .status-at .ensures)) (eq-eqb _ 52 (p .before .if1 .left)) (ap elementsOutcome (sym (p .parse .ensures) ∙ c .before .before .before .before .parsed .given .1))
 
 returns-3 : tie.Need-returns-3
 unfolding elementsCall
 returns-3 c =
     let w = c .before .before in
     let p = w .before .before .before .before .before in
-    ends-given _ _ _ (w .write-elements .ensures) (eq-eqb _ 48 (p .before .if1 .left)) (ap elementsOutcome (sym (p .parse .ensures) ∙ w .before .before .before .parsed2 .given .1))
+    ends-given _ _ _ (w .write-elements .ensures) (eq-eqb _ 52 (p .before .if1 .left)) (ap elementsOutcome (sym (p .parse .ensures) ∙ w .before .before .before .parsed2 .given .1))
 
 pub yurdelmiz-elements-spec : {M : Type 1} → statement M
 yurdelmiz-elements-spec =

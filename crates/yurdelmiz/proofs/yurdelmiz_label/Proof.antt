@@ -16,7 +16,7 @@ day-is c = rw (c .before .before .read-elements .ensures) at (c .label-day .ensu
 
 returns : tie.Need-returns
 unfolding labelCall
-returns c = bad-buffer _ _ _ (ne-eqb _ 48 (c .if1 .taken))
+returns c = bad-buffer _ _ _ (ne-eqb _ 52 (c .if1 .taken))
 
 returns-2 : tie.Need-returns-2
 unfolding labelCall
@@ -24,14 +24,14 @@ returns-2 c =
     let d = c .before .before .before .before .before .before .before in
     let l = day-is d in
     let r = c .before .before .before .labelled .given .1 in
-    rw (unchanged l r) (ends-refused _ _ _ (rw (c .before .number .ensures) at (c .status-at .ensures)) (eq-eqb _ 48 (d .before .before .before .if1 .left)) (day-refused l r))
+    rw (unchanged l r) (ends-refused _ _ _ (rw (c .before .number .ensures) at (c .status-at .ensures)) (eq-eqb _ 52 (d .before .before .before .if1 .left)) (day-refused l r))
 
 returns-3 : tie.Need-returns-3
 unfolding labelCall
 returns-3 c =
     let d = c .before .before .before .before in
     let l = day-is d in
-    ends-given _ _ _ (l .output-is) (eq-eqb _ 48 (d .before .before .before .if1 .left)) (day-labelled l (c .enum-told .given .1))
+    ends-given _ _ _ (l .output-is) (eq-eqb _ 52 (d .before .before .before .if1 .left)) (day-labelled l (c .enum-told .given .1))
 
 pub yurdelmiz-label-spec : {M : Type 1} → statement M
 yurdelmiz-label-spec =

@@ -35,10 +35,10 @@ elements c = elementsOf (now (begun c .args .elements))
 abbrev time : tie.After-position → ℤ
 time c = begun c .args .time
 
-lengths : (c : tie.After-position) → (eqb (length (now (begun c .args .elements))) 48 && eqb (length (now (begun c .args .answer))) 68) ≡ true
+lengths : (c : tie.After-position) → (eqb (length (now (begun c .args .elements))) 52 && eqb (length (now (begun c .args .answer))) 68) ≡ true
 lengths c =
     let k = c .before .before in
-    sym (and-yes _ _ (eq-eqb _ 48 (k .before .if1 .left))) ∙ eq-eqb _ 68 (k .if2 .left)
+    sym (and-yes _ _ (eq-eqb _ 52 (k .before .if1 .left))) ∙ eq-eqb _ 68 (k .if2 .left)
 
 placed-at : (c : tie.After-position) → PlacedAt (elements c) (time c) (c .position .result)
 placed-at c = rw (toZ-ofZ (begun c .fits .time), c .before .read-elements .ensures) at (c .position .ensures)
@@ -64,13 +64,13 @@ earth-fixed-is c =
 returns : tie.Need-returns
 unfolding positionCall
 returns c =
-    let e = ne-eqb _ 48 (c .if1 .taken) in
+    let e = ne-eqb _ 52 (c .if1 .taken) in
     bad-buffer _ _ _ (sym (and-no _ _ e) ∙ e)
 
 returns-2 : tie.Need-returns-2
 unfolding positionCall
 returns-2 c =
-    bad-buffer _ _ _ (sym (and-yes _ _ (eq-eqb _ 48 (c .before .if1 .left))) ∙ ne-eqb _ 68 (c .if2 .taken))
+    bad-buffer _ _ _ (sym (and-yes _ _ (eq-eqb _ 52 (c .before .if1 .left))) ∙ ne-eqb _ 68 (c .if2 .taken))
 
 sun-at-requires : tie.Need-sun-at-requires
 sun-at-requires c κs =

@@ -5,7 +5,7 @@ use mathlib.Core.Bool.{not}
 use mir.Syntax.{w32, w64}
 use mir.Val.{SFits}
 use mir.Facts.{toZ-ofZ}
-use Rattle.orbit.specs.Elements.{checked}
+use Rattle.orbit.specs.Elements.{checkedTo7, checked}
 use Rattle.orbit.proofs.Accepted.{also}
 use Rattle.orbit.proofs.elements.check.Statement.{statement}
 use Rattle.orbit.proofs.elements.check.Tie as tie
@@ -49,11 +49,17 @@ refuse-if-requires-7 c κs = search needs
 refuse-if-requires-8 : tie.Need-refuse-if-requires-8
 refuse-if-requires-8 c κs = search needs
 
-in-range-requires : tie.Need-in-range-requires
-in-range-requires c κs = search needs
+derivative-beyond-requires : tie.Need-derivative-beyond-requires
+derivative-beyond-requires c κs = search needs
 
 refuse-if-requires-9 : tie.Need-refuse-if-requires-9
 refuse-if-requires-9 c κs = search needs
+
+in-range-requires : tie.Need-in-range-requires
+in-range-requires c κs = search needs
+
+refuse-if-requires-10 : tie.Need-refuse-if-requires-10
+refuse-if-requires-10 c κs = search needs
 
 -- the signed fields fit, which owning the struct tells
 node-rate-fits : (s : tie.Start) → SFits w32 (s .args .elements .«node_rate»)
@@ -62,13 +68,17 @@ node-rate-fits s = search needs
 perigee-rate-fits : (s : tie.Start) → SFits w32 (s .args .elements .«perigee_rate»)
 perigee-rate-fits s = search needs
 
+derivative-fits : (s : tie.Start) → SFits w32 (s .args .elements .«half_mean_motion_derivative»)
+derivative-fits s = search needs
+
 epoch-fits : (s : tie.Start) → SFits w64 (s .args .elements .epoch)
 epoch-fits s = search needs
 
 returns : tie.Need-returns
-unfolding checked
+unfolding checked checkedTo7
 returns c =
-    let c8 = c .before .before .before in
+    let c16 = c .before .before .before in
+    let c8 = c16 .before .before .before in
     let c7 = c8 .before .before in
     let c6 = c7 .before .before .before in
     let c5 = c6 .before .before .before in
@@ -87,8 +97,10 @@ returns c =
     let perigee = rw (toZ-ofZ (perigee-rate-fits s)) at (c7 .before .rate-beyond2 .ensures) in
     let e6' = also _ e6 perigee (c7 .refuse-if7 .ensures) in
     let e7 = also _ e6' refl (c8 .refuse-if8 .ensures) in
+    let derivative = rw (toZ-ofZ (derivative-fits s)) at (c16 .before .derivative-beyond .ensures) in
+    let e16 = also _ e7 derivative (c16 .refuse-if9 .ensures) in
     let epoch = rw (toZ-ofZ (epoch-fits s)) at (c .before .in-range .ensures) in
-    also _ e7 (ap not epoch) (c .refuse-if9 .ensures)
+    also _ e16 (ap not epoch) (c .refuse-if10 .ensures)
 
 pub check-spec : {M : Type 1} → statement M
 check-spec =
@@ -107,6 +119,8 @@ check-spec =
     rate-beyond-requires-2
     refuse-if-requires-7
     refuse-if-requires-8
-    in-range-requires
+    derivative-beyond-requires
     refuse-if-requires-9
+    in-range-requires
+    refuse-if-requires-10
     returns)

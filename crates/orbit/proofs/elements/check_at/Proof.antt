@@ -1,15 +1,10 @@
 -- `orbit::elements::check_at` meets its contract. Assumes nothing.
 use borrow.Author.Needs.{needs}
-use mir.Syntax.{w64}
-use mir.Val.{SFits}
 use mir.Facts.{toZ-ofZ}
 use Rattle.orbit.specs.Time.{checkedAt}
 use Rattle.orbit.proofs.Accepted.{also}
 use Rattle.orbit.proofs.elements.check_at.Statement.{statement}
 use Rattle.orbit.proofs.elements.check_at.Tie as tie
-
-epoch-fits : (s : tie.Start) → SFits w64 (s .args .elements .epoch)
-epoch-fits s = search needs
 
 check-requires : tie.Need-check-requires
 check-requires c κs = search needs
@@ -23,9 +18,9 @@ refuse-if-requires c κs = search needs
 returns : tie.Need-returns
 unfolding checkedAt
 returns c =
-    let s = c .before .before .before .before in
-    let f = simp (toZ-ofZ (epoch-fits s), toZ-ofZ (s .fits .time)) at (c .before .time-refused .ensures) in
-    also _ (c .before .before .before .check .ensures) f (c .refuse-if .ensures)
+    let s = c .before .before .before in
+    let f = simp (toZ-ofZ (s .fits .time)) at (c .before .time-refused .ensures) in
+    also _ (c .before .before .check .ensures) f (c .refuse-if .ensures)
 
 pub check-at-spec : {M : Type 1} → statement M
 check-at-spec =

@@ -13,13 +13,13 @@ epoch-fits : (s : tie.Start) → SFits w64 (s .args .elements .epoch)
 epoch-fits s = search needs
 
 sub-result : tie.Need-sub-result
-sub-result c = let s = c .before .before in let d = accepted-at (s .args .elements) (s .args .time) (s .pre) .elapsed in rw (toZ-ofZ (s .fits .time), toZ-ofZ (epoch-fits s)) (sfits-within d tt)
+sub-result c = let s = c .before .before in let d = accepted-at (s .args .elements) (s .args .time) (s .pre) .near .elapsed in rw (toZ-ofZ (s .fits .time), toZ-ofZ (epoch-fits s)) (sfits-within d tt)
 
 returns : tie.Need-returns
 returns c =
     let s = c .before .before in
     rw (toZ-ofZ (sub-result c), toZ-ofZ (s .fits .time), toZ-ofZ (epoch-fits s))
-    (record { is = refl; small = accepted-at (s .args .elements) (s .args .time) (s .pre) .elapsed })
+    (record { is = refl; small = accepted-at (s .args .elements) (s .args .time) (s .pre) .near .elapsed })
 
 pub elapsed-spec : {M : Type 1} → statement M
 elapsed-spec = tie.close (tie.spec sub-result returns)
