@@ -1,7 +1,7 @@
 -- What elements and a time that pass the checks satisfy. Assumes nothing.
 use mathlib.Core.Path.{_≡_, refl, sym}
 use mathlib.Core.Bool.{Bool, true, false, not, _||_, _&&_}
-use Prim.Native.Nat.{ℕ, zero, suc, _+_, _*_, _-_, _≤_, _<_}
+use Prim.Native.Nat.{ℕ, zero, suc, _*_, _-_, _≤_, _<_}
 use native.Mathlib.Nat.{zero-mul, mul-zero, mul-le-mul-left}
 use native.Mathlib.Omega.{arith}
 use borrow.Author.Tests.{ltb-false, lt-ltb}
@@ -17,7 +17,7 @@ use Rattle.orbit.specs.declared.elements.Elements.{Elements}
 use Rattle.orbit.specs.declared.elements.Verdict.{Verdict}
 use Rattle.orbit.specs.declared.elements.Verdict.the-variants.{Passed, Refused}
 use Rattle.orbit.specs.Contract.{Near}
-use Rattle.orbit.specs.Elements.{refuseIf, perigeeBelow, checkedTo7, checked}
+use Rattle.orbit.specs.Elements.{refuseIf, perigeeBelow, leastMotion, checkedTo7, checked}
 use Rattle.orbit.specs.Time.{timesRefused, timeRefused, checkedAt}
 
 pub perigee-beyond : (a e : ℕ) → 10000000 < e → true ≡ perigeeBelow a e
@@ -44,7 +44,7 @@ stood Passed false r e = record { before = refl; holds = refl }
 pub record Accepted (el : Elements) : Type 0 where
   pub eccentricity-le : el .eccentricity ≤ 9_000_000
   pub axis-le : el .«semi_major_axis» ≤ 100_000_000
-  pub motion-ge : 20_000_000 + 60 * natAbs (el .«half_mean_motion_derivative») ≤ el .«mean_motion»
+  pub motion-ge : leastMotion (el .«half_mean_motion_derivative») ≤ el .«mean_motion»
   pub motion-le : el .«mean_motion» ≤ 1_700_000_000
   pub node-rate : Within 200_000 (el .«node_rate»)
   pub perigee-rate : Within 200_000 (el .«perigee_rate»)
@@ -65,11 +65,11 @@ unfolding checked checkedTo7
 accepted el e =
     let a = el .«semi_major_axis» in
     let n = el .«mean_motion» in
-    let size = natAbs (el .«half_mean_motion_derivative») in
+    let d = el .«half_mean_motion_derivative» in
     let s8 = stood _ _ _ e in
     let s16 = stood _ _ _ (s8 .before) in
     let s7 = stood _ _ _ (s16 .before) in
-    let slow = or-false (ltb 1_000_000 size) (ltb n (20_000_000 + 60 * size)) (s16 .holds) in
+    let slow = or-false (ltb 1_000_000 (natAbs d)) (ltb n (leastMotion d)) (s16 .holds) in
     let s6' = stood _ _ _ (s7 .before) in
     let s6 = stood _ _ _ (s6' .before) in
     let s5 = stood _ _ _ (s6 .before) in
@@ -80,7 +80,7 @@ accepted el e =
     record {
       eccentricity-le = ltb-false _ _ (s1 .holds);
       axis-le = ltb-false _ _ (or-false (ltb a 6_600_000) (ltb 100_000_000 a) (s2 .holds) .1);
-      motion-ge = omega (arith, ltb-false n (20_000_000 + 60 * size) (slow .1));
+      motion-ge = ltb-false _ _ (slow .1);
       motion-le = ltb-false _ _ (or-false (ltb n 20_000_000) (ltb 1_700_000_000 n) (s5 .holds) .1);
       node-rate = record { within = ltb-false _ _ (s6 .holds) };
       perigee-rate = record { within = ltb-false _ _ (s6' .holds) };

@@ -44,6 +44,11 @@ module _ (n : ℕ) (Δ : ℤ) where
       rw linear-floor (within-more (within-product-floor (2 ^ 17) 263_671_875 (within-pos h) k) (lit≤ tt))
 
 -- ---- the quadratic term
+-- the greatest d, 0.01 revolution a day squared, makes nine turns of thirty days
+pub nine-turns : quadraticTerm (pos 1_000_000) (pos 2_592_000) ≡ pos (9 * 2 ^ 32)
+unfolding quadraticTerm
+nine-turns = refl
+
 -- with d = -1 a second takes off a unit: the term is rounded down, and not toward zero
 pub one-below : quadraticTerm (negsuc 0) (pos 1) ≡ negsuc 0
 unfolding quadraticTerm

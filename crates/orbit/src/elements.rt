@@ -83,6 +83,8 @@ fn derivative_beyond(mean_motion: u32, half_derivative: i32) -> bool
 pub fn check(elements: Elements) -> Verdict
     ensures { λ r. ⌜ r ≡ checked elements ⌝ }
 {
+    let beyond = derivative_beyond(elements.mean_motion, elements.half_mean_motion_derivative);
+    let dated = time::in_range(elements.epoch);
     Verdict::Passed
         .refuse_if(9_000_000 < elements.eccentricity, Refusal::Eccentricity)
         .refuse_if(
@@ -101,11 +103,8 @@ pub fn check(elements: Elements) -> Verdict
         .refuse_if(rate_beyond(elements.node_rate), Refusal::DriftRate)
         .refuse_if(rate_beyond(elements.perigee_rate), Refusal::DriftRate)
         .refuse_if(99_999 < elements.epoch_revolution, Refusal::EpochRevolution)
-        .refuse_if(
-            derivative_beyond(elements.mean_motion, elements.half_mean_motion_derivative),
-            Refusal::MeanMotionDerivative,
-        )
-        .refuse_if(!time::in_range(elements.epoch), Refusal::Time)
+        .refuse_if(beyond, Refusal::MeanMotionDerivative)
+        .refuse_if(!dated, Refusal::Time)
 }
 
 fn times_refused(epoch: i64, time: i64) -> bool

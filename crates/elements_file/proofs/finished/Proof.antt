@@ -7,11 +7,11 @@ use Rattle.elements_file.proofs.finished.Tie as tie
 
 returns : tie.Need-returns
 unfolding concluded
-returns c = rw (c .before .before .before .enum-told .given .1, eq-eqb _ _ (c .before .if1 .taken))
+returns c = rw (c .before .before .before .enum-told .given .1, eq-eqb _ 12 (c .before .if1 .taken))
 
 returns-2 : tie.Need-returns-2
 unfolding concluded
-returns-2 c = rw (c .before .before .enum-told .given .1, ne-eqb _ _ (c .if1 .left))
+returns-2 c = rw (c .before .before .enum-told .given .1, ne-eqb _ 12 (c .if1 .left))
 
 returns-3 : tie.Need-returns-3
 unfolding concluded

@@ -10,6 +10,12 @@ use Rattle.orbit.proofs.Accepted.{also}
 use Rattle.orbit.proofs.elements.check.Statement.{statement}
 use Rattle.orbit.proofs.elements.check.Tie as tie
 
+derivative-beyond-requires : tie.Need-derivative-beyond-requires
+derivative-beyond-requires c κs = search needs
+
+in-range-requires : tie.Need-in-range-requires
+in-range-requires c κs = search needs
+
 refuse-if-requires : tie.Need-refuse-if-requires
 refuse-if-requires c κs = search needs
 
@@ -49,14 +55,8 @@ refuse-if-requires-7 c κs = search needs
 refuse-if-requires-8 : tie.Need-refuse-if-requires-8
 refuse-if-requires-8 c κs = search needs
 
-derivative-beyond-requires : tie.Need-derivative-beyond-requires
-derivative-beyond-requires c κs = search needs
-
 refuse-if-requires-9 : tie.Need-refuse-if-requires-9
 refuse-if-requires-9 c κs = search needs
-
-in-range-requires : tie.Need-in-range-requires
-in-range-requires c κs = search needs
 
 refuse-if-requires-10 : tie.Need-refuse-if-requires-10
 refuse-if-requires-10 c κs = search needs
@@ -77,16 +77,18 @@ epoch-fits s = search needs
 returns : tie.Need-returns
 unfolding checked checkedTo7
 returns c =
-    let c16 = c .before .before .before in
-    let c8 = c16 .before .before .before in
-    let c7 = c8 .before .before in
-    let c6 = c7 .before .before .before in
+    let c16 = c .before in
+    let c7 = c16 .before in
+    let c6' = c7 .before .before in
+    let c6 = c6' .before .before .before in
     let c5 = c6 .before .before .before in
     let c4 = c5 .before .before in
     let c3 = c4 .before .before in
     let c2 = c3 .before .before in
     let c1 = c2 .before .before in
-    let s = c1 .before .before in
+    let r = c1 .before .before in
+    let b = r .before .before in
+    let s = b .before .before in
     let e1 = c1 .refuse-if .ensures in
     let e2 = also _ e1 (c2 .before .outside .ensures) (c2 .refuse-if2 .ensures) in
     let e3 = also _ e2 (c3 .before .perigee-below .ensures) (c3 .refuse-if3 .ensures) in
@@ -94,18 +96,20 @@ returns c =
     let e5 = also _ e4 (c5 .before .outside2 .ensures) (c5 .refuse-if5 .ensures) in
     let node = rw (toZ-ofZ (node-rate-fits s)) at (c6 .before .rate-beyond .ensures) in
     let e6 = also _ e5 node (c6 .refuse-if6 .ensures) in
-    let perigee = rw (toZ-ofZ (perigee-rate-fits s)) at (c7 .before .rate-beyond2 .ensures) in
-    let e6' = also _ e6 perigee (c7 .refuse-if7 .ensures) in
-    let e7 = also _ e6' refl (c8 .refuse-if8 .ensures) in
-    let derivative = rw (toZ-ofZ (derivative-fits s)) at (c16 .before .derivative-beyond .ensures) in
+    let perigee = rw (toZ-ofZ (perigee-rate-fits s)) at (c6' .before .rate-beyond2 .ensures) in
+    let e6' = also _ e6 perigee (c6' .refuse-if7 .ensures) in
+    let e7 = also _ e6' refl (c7 .refuse-if8 .ensures) in
+    let derivative = rw (toZ-ofZ (derivative-fits s)) at (b .derivative-beyond .ensures) in
     let e16 = also _ e7 derivative (c16 .refuse-if9 .ensures) in
-    let epoch = rw (toZ-ofZ (epoch-fits s)) at (c .before .in-range .ensures) in
+    let epoch = rw (toZ-ofZ (epoch-fits s)) at (r .in-range .ensures) in
     also _ e16 (ap not epoch) (c .refuse-if10 .ensures)
 
 pub check-spec : {M : Type 1} → statement M
 check-spec =
     tie.close
     (tie.spec
+    derivative-beyond-requires
+    in-range-requires
     refuse-if-requires
     outside-requires
     refuse-if-requires-2
@@ -119,8 +123,6 @@ check-spec =
     rate-beyond-requires-2
     refuse-if-requires-7
     refuse-if-requires-8
-    derivative-beyond-requires
     refuse-if-requires-9
-    in-range-requires
     refuse-if-requires-10
     returns)

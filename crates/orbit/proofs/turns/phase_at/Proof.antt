@@ -8,6 +8,7 @@ use mir.Syntax.{w32, w64}
 use mir.Val.{SFits, toZ, ofZ}
 use mir.Facts.{toZ-ofZ}
 use Rattle.integer.specs.Bound.{Within}
+use Rattle.integer.specs.Division.{modZ}
 use Rattle.integer.proofs.Bounds.{within-add, within-more, sfits-within}
 use Rattle.integer.proofs.TwosComplement.{read-back}
 use Rattle.orbit.specs.Placement.{perigeeAt}
@@ -135,7 +136,7 @@ returns c =
     let d = c .before .before .before in
     let a = start d .args in
     record {
-      anomaly-is = rw (advance-is (d .before .before)) at (c .before .before .wrapped .ensures);
+      anomaly-is = c .before .before .wrapped .ensures ∙ ap (λ (x : ℤ). modZ (pos (a .elements .«mean_anomaly») +ℤ x) 4294967296) (advance-is (d .before .before));
       perigee-is = rw (drift-is d) at (c .before .wrapped2 .ensures);
       revolution-is = toZ-ofZ (record { sfits = c .revolution .ok }) ∙ c .revolution .ensures
           ∙ ap (λ (x : ℤ). pos (a .elements .«epoch_revolution») +ℤ nodePassages (latitudeOf (a .elements)) x) (toZ-ofZ (add-revolution (c .before)) ∙ gain-is d);
