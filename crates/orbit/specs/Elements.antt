@@ -26,11 +26,11 @@ perigeeBelow a e = ltb (a * (10 ^ 7 - e)) (6_478_000 * 10 ^ 7)
 abbrev pub rateBeyond : ℤ → Bool
 rateBeyond rate = ltb 200_000 (natAbs rate)
 
--- n less 60·|d|, which 30 days can leave of the mean motion, is below 20,000,000 where n is below this
+-- the least n with d: less 60·|d|, which 30 days can take off it, it is 20,000,000
 abbrev pub leastMotion : ℤ → ℕ
 leastMotion d = 20_000_000 + 60 * natAbs d
 
--- d is beyond ±1,000,000, or n too low for it
+-- d is beyond ±1,000,000, or n less 60·|d| is below 20,000,000
 abbrev pub derivativeBeyond : ℕ → ℤ → Bool
 derivativeBeyond n d = ltb 1_000_000 (natAbs d) || ltb n (leastMotion d)
 

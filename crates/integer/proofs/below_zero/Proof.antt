@@ -5,9 +5,6 @@ use Rattle.integer.proofs.TwosComplement.{negsuc-fits, negsuc-read}
 use Rattle.integer.proofs.below_zero.Statement.{statement}
 use Rattle.integer.proofs.below_zero.Tie as tie
 
-cast-result : tie.Need-cast-result
-cast-result c = search needs
-
 sub-result : tie.Need-sub-result
 sub-result c = negsuc-fits w64 _ (c .pre)
 
@@ -15,4 +12,4 @@ returns : tie.Need-returns
 returns c = negsuc-read w64 _ (c .pre)
 
 pub below-zero-spec : {M : Type 1} → statement M
-below-zero-spec = tie.close (tie.spec cast-result sub-result returns)
+below-zero-spec = tie.close (tie.spec (λ c. search needs) sub-result returns)

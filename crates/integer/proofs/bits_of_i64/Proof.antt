@@ -7,12 +7,6 @@ use Rattle.integer.proofs.TwosComplement.{ofZ-neg, ofZ-pos}
 use Rattle.integer.proofs.bits_of_i64.Statement.{statement}
 use Rattle.integer.proofs.bits_of_i64.Tie as tie
 
-ones-magnitude-requires : tie.Need-ones-magnitude-requires
-ones-magnitude-requires c κs = search needs
-
-sub-result : tie.Need-sub-result
-sub-result c = search needs
-
 returns : tie.Need-returns
 returns c =
     let f = c .before .before .fits .x in
@@ -24,4 +18,4 @@ returns-2 c =
     omega (arith, ofZ-pos w64 _ f (c .if1 .left), rw (toZ-ofZ f) at (c .before .ones-magnitude .ensures .0))
 
 pub bits-of-i64-spec : {M : Type 1} → statement M
-bits-of-i64-spec = tie.close (tie.spec ones-magnitude-requires sub-result returns returns-2)
+bits-of-i64-spec = tie.close (tie.spec (λ c κs. search needs) (λ c. search needs) returns returns-2)

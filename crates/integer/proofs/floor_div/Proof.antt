@@ -11,35 +11,17 @@ use Rattle.integer.proofs.Division.{floor-neg, floor-pos}
 use Rattle.integer.proofs.floor_div.Statement.{statement}
 use Rattle.integer.proofs.floor_div.Tie as tie
 
-ones-magnitude-requires : tie.Need-ones-magnitude-requires
-ones-magnitude-requires c κs = search needs
-
-div-below-zero : tie.Need-div-below-zero
-div-below-zero c = search needs
-
 below-zero-requires : tie.Need-below-zero-requires
 below-zero-requires c κs = omega (arith, div-le-self (c .before .ones-magnitude .result) (c .before .before .args .d))
 
-sub-t8 : tie.Need-sub-t8
-sub-t8 c = search needs
-
-rem-t9 : tie.Need-rem-t9
-rem-t9 c = search needs
-
 sub-t10 : tie.Need-sub-t10
 sub-t10 c = omega (arith, mod-lt (c .before .before .ones-magnitude .result) (c .before .before .before .pre))
-
-div-t11 : tie.Need-div-t11
-div-t11 c = search needs
 
 cast-t12 : tie.Need-cast-t12
 cast-t12 c =
     record {
       sfits = lt-of-le-of-lt (div-le-self (c .before .ones-magnitude .result) (c .before .before .args .d)) (c .before .ones-magnitude .ensures .1);
     }
-
-rem-t13 : tie.Need-rem-t13
-rem-t13 c = search needs
 
 returns : tie.Need-returns
 returns c =
@@ -69,14 +51,14 @@ pub floor-div-spec : {M : Type 1} → statement M
 floor-div-spec =
     tie.close
     (tie.spec
-    ones-magnitude-requires
-    div-below-zero
+    (λ c κs. search needs)
+    (λ c. search needs)
     below-zero-requires
-    sub-t8
-    rem-t9
+    (λ c. search needs)
+    (λ c. search needs)
     sub-t10
-    div-t11
+    (λ c. search needs)
     cast-t12
-    rem-t13
+    (λ c. search needs)
     returns
     returns-2)

@@ -18,12 +18,6 @@ shifted-is c =
     let e = ap (λ (z : ℤ). shrZ z (2 ^ 32)) (read-back (n .result) (n .ok) ∙ n .ensures) ∙ upper-half (c .before .args .b) (f .fits) in
     ap (λ (z : ℤ). toZ w64 (ofZ w64 z)) e ∙ toZ-ofZ (sfits-widen tt (sfits-toZ f))
 
-mul-i64-of-bits : tie.Need-mul-i64-of-bits
-mul-i64-of-bits c = search needs
-
-i64-of-bits-requires : tie.Need-i64-of-bits-requires
-i64-of-bits-requires c κs = search needs
-
 cast-result : tie.Need-cast-result
 cast-result c = rw (shifted-is c) (sfits-toZ (c .before .fits .b))
 
@@ -31,4 +25,4 @@ returns : tie.Need-returns
 returns c = toZ-ofZ (cast-result c) ∙ shifted-is c
 
 pub i32-of-bits-spec : {M : Type 1} → statement M
-i32-of-bits-spec = tie.close (tie.spec mul-i64-of-bits i64-of-bits-requires cast-result returns)
+i32-of-bits-spec = tie.close (tie.spec (λ c. search needs) (λ c κs. search needs) cast-result returns)

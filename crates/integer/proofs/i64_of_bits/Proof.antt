@@ -9,18 +9,6 @@ use Rattle.integer.proofs.TwosComplement.{toZ-high}
 use Rattle.integer.proofs.i64_of_bits.Statement.{statement}
 use Rattle.integer.proofs.i64_of_bits.Tie as tie
 
-cast-result : tie.Need-cast-result
-cast-result c = search needs
-
-sub-below-zero : tie.Need-sub-below-zero
-sub-below-zero c = search needs
-
-below-zero-requires : tie.Need-below-zero-requires
-below-zero-requires c κs = search needs
-
-returns : tie.Need-returns
-returns c = search needs
-
 returns-2 : tie.Need-returns-2
 returns-2 c =
     toZ-ofZ (record { sfits = c .below-zero .ok }) ∙ c .below-zero .ensures ∙ ap negsuc (omega arith)
@@ -28,4 +16,4 @@ returns-2 c =
 
 pub i64-of-bits-spec : {M : Type 1} → statement M
 i64-of-bits-spec =
-    tie.close (tie.spec cast-result sub-below-zero below-zero-requires returns returns-2)
+    tie.close (tie.spec (λ c. search needs) (λ c. search needs) (λ c κs. search needs) (λ c. search needs) returns-2)

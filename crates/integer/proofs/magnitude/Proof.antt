@@ -12,12 +12,6 @@ use Rattle.integer.proofs.magnitude.Tie as tie
 mag-is : (c : tie.After-ones-magnitude) → c .ones-magnitude .result ≡ mag (c .before .args .x)
 mag-is c = rw (toZ-ofZ (c .before .fits .x)) at (c .ones-magnitude .ensures .0)
 
-ones-magnitude-requires : tie.Need-ones-magnitude-requires
-ones-magnitude-requires c κs = search needs
-
-add-result : tie.Need-add-result
-add-result c = search needs
-
 returns : tie.Need-returns
 returns c =
     let t = rw (toZ-ofZ (c .before .before .fits .x)) at (c .if1 .taken) in
@@ -29,4 +23,4 @@ returns-2 c =
     omega (arith, ap natAbs (is-pos (c .before .before .args .x) t), mag-is (c .before))
 
 pub magnitude-spec : {M : Type 1} → statement M
-magnitude-spec = tie.close (tie.spec ones-magnitude-requires add-result returns returns-2)
+magnitude-spec = tie.close (tie.spec (λ c κs. search needs) (λ c. search needs) returns returns-2)

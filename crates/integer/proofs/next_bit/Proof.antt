@@ -7,15 +7,6 @@ use Rattle.integer.proofs.DigitByDigit.{bit-added}
 use Rattle.integer.proofs.next_bit.Statement.{statement}
 use Rattle.integer.proofs.next_bit.Tie as tie
 
-add-remainder : tie.Need-add-remainder
-add-remainder c = search needs
-
-add-subtrahend : tie.Need-add-subtrahend
-add-subtrahend c = search needs
-
-add-t9 : tie.Need-add-t9
-add-t9 c = search needs
-
 -- no bit of the remainder is lost in its shift
 remainder-small : (s : tie.Start) → s .args .partial .remainder ≤ 2 * s .args .partial .root
 remainder-small s = remainder-le (s .args .partial .root) (s .args .partial .remainder) (s .pre .0)
@@ -31,4 +22,4 @@ returns-2 c =
     bit-added _ _ _ 1 (omega arith) (omega arith) (omega arith) (omega arith)
 
 pub next-bit-spec : {M : Type 1} → statement M
-next-bit-spec = tie.close (tie.spec add-remainder add-subtrahend add-t9 returns returns-2)
+next-bit-spec = tie.close (tie.spec (λ c. search needs) (λ c. search needs) (λ c. search needs) returns returns-2)

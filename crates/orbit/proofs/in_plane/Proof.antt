@@ -9,12 +9,6 @@ use Rattle.orbit.proofs.Distances.{plane-box}
 use Rattle.orbit.proofs.in_plane.Statement.{statement}
 use Rattle.orbit.proofs.in_plane.Tie as tie
 
-plane-x-requires : tie.Need-plane-x-requires
-plane-x-requires c κs = search needs
-
-plane-y-requires : tie.Need-plane-y-requires
-plane-y-requires c κs = search needs
-
 returns : tie.Need-returns
 unfolding planeOf
 returns c =
@@ -27,4 +21,4 @@ returns c =
     record { is = is; box = rw is (plane-box _ _ _ _ _ (p .axis-le) (p .eccentricity-le) (p .minor-le) (p .cosine-within) (p .sine-within)) }
 
 pub in-plane-spec : {M : Type 1} → statement M
-in-plane-spec = tie.close (tie.spec plane-x-requires plane-y-requires returns)
+in-plane-spec = tie.close (tie.spec (λ c κs. search needs) (λ c κs. search needs) returns)

@@ -10,15 +10,6 @@ use Rattle.orbit.proofs.Placements.{placement-refused, placement-placed
 use Rattle.orbit.proofs.position.Statement.{statement}
 use Rattle.orbit.proofs.position.Tie as tie
 
-check-at-requires : tie.Need-check-at-requires
-check-at-requires c κs = search needs
-
-enum-known-verdict : tie.Need-enum-known-verdict
-enum-known-verdict c = search needs
-
-enum-told : tie.Need-enum-told
-enum-told c = search needs
-
 passed : (c : tie.After-enum-told) → checkedAt (c .before .before .before .args .elements) (c .before .before .before .args .time) ≡ Passed
 passed c =
     sym (rw (toZ-ofZ (c .before .before .before .fits .time)) at (c .before .before .check-at .ensures)) ∙ c .enum-told .given .1
@@ -52,9 +43,9 @@ pub position-spec : {M : Type 1} → statement M
 position-spec =
     tie.close
     (tie.spec
-    check-at-requires
-    enum-known-verdict
-    enum-told
+    (λ c κs. search needs)
+    (λ c. search needs)
+    (λ c. search needs)
     of-requires
     node-at-requires
     state-at-requires

@@ -24,9 +24,6 @@ elements-accepted : (s : tie.Start) → Accepted (s .args .elements)
 elements-accepted s = accepted-at (s .args .elements) (s .args .time) (s .pre .0) .elements
 
 -- ---- the mean anomaly and the revolution
-phase-at-requires : tie.Need-phase-at-requires
-phase-at-requires c κs = search needs
-
 phase-at : (c : tie.After-phase-at) → PhaseAt (c .before .args .elements) (c .before .args .time) (c .phase-at .result)
 phase-at c = rw (toZ-ofZ (c .before .fits .time)) at (c .phase-at .ensures)
 
@@ -34,9 +31,6 @@ revolution-fits : (c : tie.After-phase-at) → SFits w32 (c .phase-at .result .r
 revolution-fits c = search needs
 
 -- ---- the argument of perigee
-of-requires : tie.Need-of-requires
-of-requires c κs = search needs
-
 perigee-at : (c : tie.After-of) → let a = c .before .before .args in SinesAt (perigeeAt (a .elements) (a .time)) (c .of .result)
 perigee-at c = rw (phase-at (c .before) .perigee-is) at (c .of .ensures)
 
@@ -51,9 +45,6 @@ anomaly-at : (c : tie.After-eccentric-anomaly) → let a = start c .args in c .e
 anomaly-at c =
     anomaly-is (start c .args .elements) (start c .args .time) _
     (subst (λ (M : ℕ). AnomalyAt (start c .args .elements .eccentricity) M (c .eccentric-anomaly .result)) (phase-at (c .before .before) .anomaly-is) (c .eccentric-anomaly .ensures))
-
-of-requires-2 : tie.Need-of-requires-2
-of-requires-2 c κs = search needs
 
 sines-at : (c : tie.After-of2) → let a = start (c .before) .args in SinesAt (anomalyOf (a .elements) (meanAnomaly (a .elements) (a .time)) .angle) (c .of2 .result)
 sines-at c = subst (λ (r : Anomaly). SinesAt (r .angle) (c .of2 .result)) (anomaly-at (c .before)) (c .of2 .ensures)
@@ -113,10 +104,10 @@ pub state-at-spec : {M : Type 1} → statement M
 state-at-spec =
     tie.close
     (tie.spec
-    phase-at-requires
-    of-requires
+    (λ c κs. search needs)
+    (λ c κs. search needs)
     eccentric-anomaly-requires
-    of-requires-2
+    (λ c κs. search needs)
     in-plane-requires
     celestial-requires
     radius-requires

@@ -10,57 +10,6 @@ use Rattle.orbit.proofs.Accepted.{also}
 use Rattle.orbit.proofs.elements.check.Statement.{statement}
 use Rattle.orbit.proofs.elements.check.Tie as tie
 
-derivative-beyond-requires : tie.Need-derivative-beyond-requires
-derivative-beyond-requires c κs = search needs
-
-in-range-requires : tie.Need-in-range-requires
-in-range-requires c κs = search needs
-
-refuse-if-requires : tie.Need-refuse-if-requires
-refuse-if-requires c κs = search needs
-
-outside-requires : tie.Need-outside-requires
-outside-requires c κs = search needs
-
-refuse-if-requires-2 : tie.Need-refuse-if-requires-2
-refuse-if-requires-2 c κs = search needs
-
-perigee-below-requires : tie.Need-perigee-below-requires
-perigee-below-requires c κs = search needs
-
-refuse-if-requires-3 : tie.Need-refuse-if-requires-3
-refuse-if-requires-3 c κs = search needs
-
-refuse-if-requires-4 : tie.Need-refuse-if-requires-4
-refuse-if-requires-4 c κs = search needs
-
-outside-requires-2 : tie.Need-outside-requires-2
-outside-requires-2 c κs = search needs
-
-refuse-if-requires-5 : tie.Need-refuse-if-requires-5
-refuse-if-requires-5 c κs = search needs
-
-rate-beyond-requires : tie.Need-rate-beyond-requires
-rate-beyond-requires c κs = search needs
-
-refuse-if-requires-6 : tie.Need-refuse-if-requires-6
-refuse-if-requires-6 c κs = search needs
-
-rate-beyond-requires-2 : tie.Need-rate-beyond-requires-2
-rate-beyond-requires-2 c κs = search needs
-
-refuse-if-requires-7 : tie.Need-refuse-if-requires-7
-refuse-if-requires-7 c κs = search needs
-
-refuse-if-requires-8 : tie.Need-refuse-if-requires-8
-refuse-if-requires-8 c κs = search needs
-
-refuse-if-requires-9 : tie.Need-refuse-if-requires-9
-refuse-if-requires-9 c κs = search needs
-
-refuse-if-requires-10 : tie.Need-refuse-if-requires-10
-refuse-if-requires-10 c κs = search needs
-
 -- the signed fields fit, which owning the struct tells
 node-rate-fits : (s : tie.Start) → SFits w32 (s .args .elements .«node_rate»)
 node-rate-fits s = search needs
@@ -108,21 +57,21 @@ pub check-spec : {M : Type 1} → statement M
 check-spec =
     tie.close
     (tie.spec
-    derivative-beyond-requires
-    in-range-requires
-    refuse-if-requires
-    outside-requires
-    refuse-if-requires-2
-    perigee-below-requires
-    refuse-if-requires-3
-    refuse-if-requires-4
-    outside-requires-2
-    refuse-if-requires-5
-    rate-beyond-requires
-    refuse-if-requires-6
-    rate-beyond-requires-2
-    refuse-if-requires-7
-    refuse-if-requires-8
-    refuse-if-requires-9
-    refuse-if-requires-10
+    (λ c κs. search needs)
+    (λ c κs. search needs)
+    (λ c κs. search needs)
+    (λ c κs. search needs)
+    (λ c κs. search needs)
+    (λ c κs. search needs)
+    (λ c κs. search needs)
+    (λ c κs. search needs)
+    (λ c κs. search needs)
+    (λ c κs. search needs)
+    (λ c κs. search needs)
+    (λ c κs. search needs)
+    (λ c κs. search needs)
+    (λ c κs. search needs)
+    (λ c κs. search needs)
+    (λ c κs. search needs)
+    (λ c κs. search needs)
     returns)

@@ -6,15 +6,6 @@ use Rattle.orbit.proofs.Accepted.{also}
 use Rattle.orbit.proofs.elements.check_at.Statement.{statement}
 use Rattle.orbit.proofs.elements.check_at.Tie as tie
 
-check-requires : tie.Need-check-requires
-check-requires c κs = search needs
-
-time-refused-requires : tie.Need-time-refused-requires
-time-refused-requires c κs = search needs
-
-refuse-if-requires : tie.Need-refuse-if-requires
-refuse-if-requires c κs = search needs
-
 returns : tie.Need-returns
 unfolding checkedAt
 returns c =
@@ -24,4 +15,4 @@ returns c =
 
 pub check-at-spec : {M : Type 1} → statement M
 check-at-spec =
-    tie.close (tie.spec check-requires time-refused-requires refuse-if-requires returns)
+    tie.close (tie.spec (λ c κs. search needs) (λ c κs. search needs) (λ c κs. search needs) returns)

@@ -11,24 +11,15 @@ use Rattle.orbit.proofs.elements.derivative_beyond.Tie as tie
 cast-magnitude : tie.Need-cast-magnitude
 cast-magnitude c = rw (toZ-ofZ (c .fits .half-derivative)) (sfits-widen tt (c .fits .half-derivative))
 
-magnitude-requires : tie.Need-magnitude-requires
-magnitude-requires c κs = search needs
-
 size-is : (c : tie.After-magnitude) → c .magnitude .result ≡ natAbs (c .before .args .half-derivative)
 size-is c = c .magnitude .ensures ∙ ap natAbs (toZ-ofZ (cast-magnitude (c .before)) ∙ toZ-ofZ (c .before .fits .half-derivative))
 
 returns : tie.Need-returns
 returns c = rw (lt-ltb 1000000 (natAbs (c .before .before .args .half-derivative)) (omega (arith, size-is (c .before))))
 
-mul-result : tie.Need-mul-result
-mul-result c = search needs
-
-add-result : tie.Need-add-result
-add-result c = search needs
-
 returns-2 : tie.Need-returns-2
 returns-2 c = rw (← (size-is (c .before)), le-ltb 1000000 (c .before .magnitude .result) (omega arith))
 
 pub derivative-beyond-spec : {M : Type 1} → statement M
 derivative-beyond-spec =
-    tie.close (tie.spec cast-magnitude magnitude-requires returns mul-result add-result returns-2)
+    tie.close (tie.spec cast-magnitude (λ c κs. search needs) returns (λ c. search needs) (λ c. search needs) returns-2)

@@ -12,9 +12,6 @@ use Rattle.orbit.proofs.elements.perigee_below.Tie as tie
 returns : tie.Need-returns
 returns c = perigee-beyond (c .before .args .a) (c .before .args .e) (c .if1 .taken)
 
-sub-result : tie.Need-sub-result
-sub-result c = search needs
-
 mul-result : tie.Need-mul-result
 mul-result c =
     let a : c .before .args .a ≤ 4294967295 = omega arith in
@@ -26,4 +23,4 @@ unfolding perigeeBelow
 returns-2 c = refl
 
 pub perigee-below-spec : {M : Type 1} → statement M
-perigee-below-spec = tie.close (tie.spec returns sub-result mul-result returns-2)
+perigee-below-spec = tie.close (tie.spec returns (λ c. search needs) mul-result returns-2)

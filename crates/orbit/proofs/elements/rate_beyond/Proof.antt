@@ -11,13 +11,10 @@ use Rattle.orbit.proofs.elements.rate_beyond.Tie as tie
 cast-magnitude : tie.Need-cast-magnitude
 cast-magnitude c = rw (toZ-ofZ (c .fits .rate)) (sfits-widen tt (c .fits .rate))
 
-magnitude-requires : tie.Need-magnitude-requires
-magnitude-requires c κs = search needs
-
 returns : tie.Need-returns
 returns c =
     ap (λ (n : ℕ). ltb 200000 n)
     (c .magnitude .ensures ∙ ap natAbs (toZ-ofZ (cast-magnitude (c .before)) ∙ toZ-ofZ (c .before .fits .rate)))
 
 pub rate-beyond-spec : {M : Type 1} → statement M
-rate-beyond-spec = tie.close (tie.spec cast-magnitude magnitude-requires returns)
+rate-beyond-spec = tie.close (tie.spec cast-magnitude (λ c κs. search needs) returns)

@@ -16,9 +16,6 @@ use Rattle.orbit.proofs.Accepted.{within-year}
 use Rattle.orbit.proofs.elements.time_refused.Statement.{statement}
 use Rattle.orbit.proofs.elements.time_refused.Tie as tie
 
-times-refused-requires : tie.Need-times-refused-requires
-times-refused-requires c κs = search needs
-
 epoch-fits : (s : tie.Start) → SFits w64 (s .args .elements .epoch)
 epoch-fits s = search needs
 
@@ -47,17 +44,11 @@ size-is : (c : tie.After-magnitude) → c .magnitude .result ≡ natAbs (c .befo
 size-is c =
     c .magnitude .ensures ∙ ap natAbs (toZ-ofZ (cast-magnitude (c .before)) ∙ toZ-ofZ (derivative-fits (c .before .before .before .before .before .before)))
 
-magnitude-requires : tie.Need-magnitude-requires
-magnitude-requires c κs = search needs
-
 sub-magnitude : tie.Need-sub-magnitude
 sub-magnitude c =
     let e = c .before .before .before .before in
     let s = e .before .before .before in
     rw (toZ-ofZ (s .fits .time), toZ-ofZ (epoch-fits s)) (sfits-within (within-year (s .args .elements .epoch) (s .args .time) (near e)) tt)
-
-magnitude-requires-2 : tie.Need-magnitude-requires-2
-magnitude-requires-2 c κs = search needs
 
 returns-2 : tie.Need-returns-2
 unfolding timeRefused
@@ -80,11 +71,11 @@ pub time-refused-spec : {M : Type 1} → statement M
 time-refused-spec =
     tie.close
     (tie.spec
-    times-refused-requires
+    (λ c κs. search needs)
     returns
     cast-magnitude
-    magnitude-requires
+    (λ c κs. search needs)
     sub-magnitude
-    magnitude-requires-2
+    (λ c κs. search needs)
     returns-2
     returns-3)

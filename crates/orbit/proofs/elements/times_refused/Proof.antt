@@ -11,17 +11,11 @@ use Rattle.orbit.proofs.Accepted.{apart}
 use Rattle.orbit.proofs.elements.times_refused.Statement.{statement}
 use Rattle.orbit.proofs.elements.times_refused.Tie as tie
 
-in-range-requires : tie.Need-in-range-requires
-in-range-requires c κs = search needs
-
 returns : tie.Need-returns
 unfolding timesRefused
 returns c =
     let s = c .before .before in
     rw (← (rw (toZ-ofZ (s .fits .epoch)) at (c .before .in-range .ensures)), c .if1 .taken)
-
-in-range-requires-2 : tie.Need-in-range-requires-2
-in-range-requires-2 c κs = search needs
 
 returns-2 : tie.Need-returns-2
 unfolding timesRefused
@@ -43,9 +37,6 @@ sub-magnitude c =
     let t = ap not (sym (rw ft at (c .before .in-range2 .ensures))) ∙ c .if2 .left in
     rw (ft, fe) (sfits-within (apart (s .args .epoch) (s .args .time) e t) tt)
 
-magnitude-requires : tie.Need-magnitude-requires
-magnitude-requires c κs = search needs
-
 returns-3 : tie.Need-returns-3
 unfolding timesRefused
 returns-3 c =
@@ -63,10 +54,10 @@ pub times-refused-spec : {M : Type 1} → statement M
 times-refused-spec =
     tie.close
     (tie.spec
-    in-range-requires
+    (λ c κs. search needs)
     returns
-    in-range-requires-2
+    (λ c κs. search needs)
     returns-2
     sub-magnitude
-    magnitude-requires
+    (λ c κs. search needs)
     returns-3)

@@ -6,12 +6,9 @@ use Rattle.orbit.specs.Ellipse.{e30}
 use Rattle.orbit.proofs.ellipse.eccentricity30.Statement.{statement}
 use Rattle.orbit.proofs.ellipse.eccentricity30.Tie as tie
 
-mul-result : tie.Need-mul-result
-mul-result c = search needs
-
 returns : tie.Need-returns
 unfolding e30
 returns c = (refl, omega arith)
 
 pub eccentricity30-spec : {M : Type 1} → statement M
-eccentricity30-spec = tie.close (tie.spec mul-result returns)
+eccentricity30-spec = tie.close (tie.spec (λ c. search needs) returns)

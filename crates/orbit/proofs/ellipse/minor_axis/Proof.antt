@@ -10,20 +10,11 @@ use Rattle.orbit.proofs.Distances.{minor-le}
 use Rattle.orbit.proofs.ellipse.minor_axis.Statement.{statement}
 use Rattle.orbit.proofs.ellipse.minor_axis.Tie as tie
 
-eccentricity30-requires : tie.Need-eccentricity30-requires
-eccentricity30-requires c κs = search needs
-
 mul-square-root : tie.Need-mul-square-root
 mul-square-root c = record { fits = omega (arith, mul-le-mul (c .eccentricity30 .ensures .1) (c .eccentricity30 .ensures .1)) }
 
 sub-square-root : tie.Need-sub-square-root
 sub-square-root c = omega (arith, mul-le-mul (c .eccentricity30 .ensures .1) (c .eccentricity30 .ensures .1))
-
-square-root-requires : tie.Need-square-root-requires
-square-root-requires c κs = search needs
-
-cast-result : tie.Need-cast-result
-cast-result c = search needs
 
 minor-is : (c : tie.After-square-root) → c .square-root .result ≡ minorAxis (c .before .before .args .e)
 unfolding minorAxis
@@ -36,9 +27,9 @@ pub minor-axis-spec : {M : Type 1} → statement M
 minor-axis-spec =
     tie.close
     (tie.spec
-    eccentricity30-requires
+    (λ c κs. search needs)
     mul-square-root
     sub-square-root
-    square-root-requires
-    cast-result
+    (λ c κs. search needs)
+    (λ c. search needs)
     returns)

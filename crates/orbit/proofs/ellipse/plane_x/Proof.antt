@@ -3,7 +3,7 @@ use borrow.Author.Needs.{needs}
 use mathlib.Core.Path.{_≡_, _∙_, ap}
 use native.Mathlib.Omega.{arith}
 use lib.Dec.{lit≤}
-use lib.IntN.{ℤ, pos, _-ℤ_, _*ℤ_}
+use lib.IntN.{pos, _-ℤ_, _*ℤ_}
 use mir.Syntax.{w64}
 use mir.Val.{toZ, ofZ}
 use mir.Facts.{toZ-ofZ, toZ-pos}
@@ -12,15 +12,6 @@ use Rattle.orbit.specs.Ellipse.{e30, inPlaneX}
 use Rattle.orbit.proofs.Distances.{scaled-is, offset-within, x-product-within}
 use Rattle.orbit.proofs.ellipse.plane_x.Statement.{statement}
 use Rattle.orbit.proofs.ellipse.plane_x.Tie as tie
-
-cast-scaled : tie.Need-cast-scaled
-cast-scaled c = search needs
-
-eccentricity30-requires : tie.Need-eccentricity30-requires
-eccentricity30-requires c κs = search needs
-
-cast-scaled-2 : tie.Need-cast-scaled-2
-cast-scaled-2 c = search needs
 
 offset-is : (c : tie.After-eccentricity30) → toZ w64 (ofZ w64 (c .before .args .cosine)) -ℤ toZ w64 (c .eccentricity30 .result) ≡ c .before .args .cosine -ℤ pos (e30 (c .before .args .e))
 offset-is c =
@@ -43,4 +34,4 @@ returns c = scaled-is _ (c .scaled .ok) (c .scaled .ensures) (product-is (c .bef
 pub plane-x-spec : {M : Type 1} → statement M
 plane-x-spec =
     tie.close
-    (tie.spec cast-scaled eccentricity30-requires cast-scaled-2 sub-scaled scaled-requires returns)
+    (tie.spec (λ c. search needs) (λ c κs. search needs) (λ c. search needs) sub-scaled scaled-requires returns)

@@ -3,7 +3,7 @@ use borrow.Author.Needs.{needs}
 use mathlib.Core.Path.{_≡_}
 use native.Mathlib.Omega.{arith}
 use lib.Dec.{lit≤}
-use lib.IntN.{ℤ, pos, _*ℤ_}
+use lib.IntN.{pos, _*ℤ_}
 use lib.Signed.{quotZ}
 use mir.Syntax.{w64}
 use mir.Val.{toZ, ofZ}
@@ -13,12 +13,6 @@ use Rattle.orbit.specs.Ellipse.{inPlaneY}
 use Rattle.orbit.proofs.Distances.{scaled-is, height-within}
 use Rattle.orbit.proofs.ellipse.plane_y.Statement.{statement}
 use Rattle.orbit.proofs.ellipse.plane_y.Tie as tie
-
-cast-scaled : tie.Need-cast-scaled
-cast-scaled c = search needs
-
-cast-scaled-2 : tie.Need-cast-scaled-2
-cast-scaled-2 c = search needs
 
 inner-is : (c : tie.Start) → toZ w64 (c .args .minor-axis) *ℤ toZ w64 (ofZ w64 (c .args .sine)) ≡ pos (c .args .minor-axis) *ℤ c .args .sine
 inner-is c = rw (toZ-pos w64 {n = c .args .minor-axis} (omega arith), toZ-ofZ (c .fits .sine))
@@ -44,4 +38,4 @@ returns c = scaled-is _ (c .scaled2 .ok) (c .scaled2 .ensures) (outer-is (c .bef
 
 pub plane-y-spec : {M : Type 1} → statement M
 plane-y-spec =
-    tie.close (tie.spec cast-scaled cast-scaled-2 scaled-requires scaled-requires-2 returns)
+    tie.close (tie.spec (λ c. search needs) (λ c. search needs) scaled-requires scaled-requires-2 returns)

@@ -14,15 +14,6 @@ use Rattle.orbit.proofs.Distances.{e30-le, scaled-is, factor-within}
 use Rattle.orbit.proofs.ellipse.radius.Statement.{statement}
 use Rattle.orbit.proofs.ellipse.radius.Tie as tie
 
-cast-scaled : tie.Need-cast-scaled
-cast-scaled c = search needs
-
-eccentricity30-requires : tie.Need-eccentricity30-requires
-eccentricity30-requires c κs = search needs
-
-cast-scaled-2 : tie.Need-cast-scaled-2
-cast-scaled-2 c = search needs
-
 inner-is : (c : tie.After-eccentricity30) → toZ w64 (c .eccentricity30 .result) *ℤ toZ w64 (ofZ w64 (c .before .args .cosine)) ≡ pos (e30 (c .before .args .e)) *ℤ c .before .args .cosine
 inner-is c =
     let k = toZ-pos w64 {n = c .eccentricity30 .result} (omega (arith, c .eccentricity30 .ensures .1)) ∙ ap pos (c .eccentricity30 .ensures .0) in
@@ -61,9 +52,9 @@ pub radius-spec : {M : Type 1} → statement M
 radius-spec =
     tie.close
     (tie.spec
-    cast-scaled
-    eccentricity30-requires
-    cast-scaled-2
+    (λ c. search needs)
+    (λ c κs. search needs)
+    (λ c. search needs)
     scaled-requires
     sub-scaled
     scaled-requires-2

@@ -34,9 +34,6 @@ mul-floor-div c = rw (rate-is c, toZ-ofZ (c .fits .elapsed)) (sfits-within (with
 mul-floor-div-2 : tie.Need-mul-floor-div-2
 mul-floor-div-2 c = rw (toZ-ofZ (mul-floor-div c), rate-is c, toZ-ofZ (c .fits .elapsed)) (sfits-within (product-within c) tt)
 
-floor-div-requires : tie.Need-floor-div-requires
-floor-div-requires c κs = search needs
-
 quotient-fits : (c : tie.After-floor-div) → SFits w64 (c .floor-div .result .quotient)
 quotient-fits c = search needs
 
@@ -56,4 +53,4 @@ returns c =
     let e = quotient-is f in (e, rw e (drift-within _ _ (f .before .pre .0) (f .before .pre .1)))
 
 pub drift-spec : {M : Type 1} → statement M
-drift-spec = tie.close (tie.spec cast-floor-div mul-floor-div mul-floor-div-2 floor-div-requires returns)
+drift-spec = tie.close (tie.spec cast-floor-div mul-floor-div mul-floor-div-2 (λ c κs. search needs) returns)

@@ -11,12 +11,6 @@ use Rattle.orbit.specs.Turns.{elapsedOf, drift, drifted}
 use Rattle.orbit.proofs.turns.drift_at.Statement.{statement}
 use Rattle.orbit.proofs.turns.drift_at.Tie as tie
 
-elapsed-requires : tie.Need-elapsed-requires
-elapsed-requires c κs = search needs
-
-drift-requires : tie.Need-drift-requires
-drift-requires c κs = search needs
-
 -- the drift, as the machine holds it
 drift-is : (c : tie.After-drift) → let a = c .before .before .args in toZ w64 (ofZ w64 (c .drift .result)) ≡ drift (a .rate) (elapsedOf (a .elements) (a .time))
 drift-is c =
@@ -29,13 +23,10 @@ wrapped-requires : tie.Need-wrapped-requires
 wrapped-requires c κs =
     rw (read-back (c .drift .result) (c .drift .ok)) (within-more (c .drift .ensures .1) (lit≤ tt))
 
-of-requires : tie.Need-of-requires
-of-requires c κs = search needs
-
 returns : tie.Need-returns
 unfolding drifted
 returns c = rw (rw (drift-is (c .before .before)) at (c .before .wrapped .ensures)) at (c .of .ensures)
 
 pub drift-at-spec : {M : Type 1} → statement M
 drift-at-spec =
-    tie.close (tie.spec elapsed-requires drift-requires wrapped-requires of-requires returns)
+    tie.close (tie.spec (λ c κs. search needs) (λ c κs. search needs) wrapped-requires (λ c κs. search needs) returns)

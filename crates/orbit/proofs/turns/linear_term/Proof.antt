@@ -19,9 +19,6 @@ use Rattle.orbit.proofs.turns.linear_term.Tie as tie
 abbrev motion : tie.Start → ℤ
 motion c = pos (c .args .mean-motion) *ℤ c .args .elapsed
 
-cast-floor-scaled : tie.Need-cast-floor-scaled
-cast-floor-scaled c = search needs
-
 mul-floor-scaled : tie.Need-mul-floor-scaled
 mul-floor-scaled c =
     rw (toZ-pos w64 {n = c .args .mean-motion} (omega arith), toZ-ofZ (c .fits .elapsed))
@@ -49,4 +46,4 @@ returns c =
 
 pub linear-term-spec : {M : Type 1} → statement M
 linear-term-spec =
-    tie.close (tie.spec cast-floor-scaled mul-floor-scaled floor-scaled-requires returns)
+    tie.close (tie.spec (λ c. search needs) mul-floor-scaled floor-scaled-requires returns)

@@ -25,9 +25,6 @@ passed s = accepted-at (s .args .elements) (s .args .time) (s .pre)
 rate-fits : (s : tie.Start) → SFits w32 (s .args .elements .«perigee_rate»)
 rate-fits s = search needs
 
-elapsed-requires : tie.Need-elapsed-requires
-elapsed-requires c κs = search needs
-
 elapsed-is : (c : tie.After-elapsed) → toZ w64 (ofZ w64 (c .elapsed .result)) ≡ elapsedOf (c .before .args .elements) (c .before .args .time)
 elapsed-is c =
     read-back (c .elapsed .result) (c .elapsed .ok) ∙ rw (toZ-ofZ (c .before .fits .time)) at (c .elapsed .ensures .is)
@@ -146,7 +143,7 @@ pub phase-at-spec : {M : Type 1} → statement M
 phase-at-spec =
     tie.close
     (tie.spec
-    elapsed-requires
+    (λ c κs. search needs)
     linear-term-requires
     quadratic-term-requires
     add-advance

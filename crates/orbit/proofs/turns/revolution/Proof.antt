@@ -13,15 +13,6 @@ use Rattle.orbit.proofs.Revolution.{passages-wrapped}
 use Rattle.orbit.proofs.turns.revolution.Statement.{statement}
 use Rattle.orbit.proofs.turns.revolution.Tie as tie
 
-add-latitude : tie.Need-add-latitude
-add-latitude c = search needs
-
-cast-result : tie.Need-cast-result
-cast-result c = search needs
-
-turned-requires : tie.Need-turned-requires
-turned-requires c κs = search needs
-
 -- the number, as the machine holds it
 abbrev number : tie.After-turned → ℤ
 number c = pos (c .before .args .first) +ℤ c .turned .result .quotient
@@ -50,4 +41,4 @@ returns c =
 
 pub revolution-spec : {M : Type 1} → statement M
 revolution-spec =
-    tie.close (tie.spec add-latitude cast-result turned-requires add-result cast-result-2 returns)
+    tie.close (tie.spec (λ c. search needs) (λ c. search needs) (λ c κs. search needs) add-result cast-result-2 returns)

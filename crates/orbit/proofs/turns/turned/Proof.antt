@@ -14,9 +14,6 @@ use Rattle.integer.proofs.Division.{within-floor}
 use Rattle.orbit.proofs.turns.turned.Statement.{statement}
 use Rattle.orbit.proofs.turns.turned.Tie as tie
 
-cast-floor-div : tie.Need-cast-floor-div
-cast-floor-div c = search needs
-
 -- the sum, as the machine holds it
 operands : (c : tie.Start) → toZ w64 (c .args .angle) +ℤ toZ w64 (ofZ w64 (c .args .gained)) ≡ pos (c .args .angle) +ℤ c .args .gained
 operands c = rw (toZ-pos w64 {n = c .args .angle} (omega (arith, c .pre .0)), toZ-ofZ (c .fits .gained))
@@ -27,9 +24,6 @@ sum-within c = within-add {a = 8589934591} (within-pos (omega (arith, c .pre .0)
 add-floor-div : tie.Need-add-floor-div
 add-floor-div c = rw (operands c) (sfits-within (sum-within c) tt)
 
-floor-div-requires : tie.Need-floor-div-requires
-floor-div-requires c κs = search needs
-
 returns : tie.Need-returns
 returns c =
     let s = c .before in
@@ -37,4 +31,4 @@ returns c =
     (divided, rw (divided .quotient-is) (within-more (within-floor (pos (s .args .angle) +ℤ s .args .gained) 4294967296 (sum-within s)) (lit≤ tt)))
 
 pub turned-spec : {M : Type 1} → statement M
-turned-spec = tie.close (tie.spec cast-floor-div add-floor-div floor-div-requires returns)
+turned-spec = tie.close (tie.spec (λ c. search needs) add-floor-div (λ c κs. search needs) returns)

@@ -9,9 +9,6 @@ use Rattle.integer.proofs.Division.{mod-below}
 use Rattle.orbit.proofs.turns.wrapped.Statement.{statement}
 use Rattle.orbit.proofs.turns.wrapped.Tie as tie
 
-turned-requires : tie.Need-turned-requires
-turned-requires c κs = search needs
-
 remainder-is : (c : tie.After-turned) → c .turned .result .remainder ≡ modZ (pos (c .before .args .angle) +ℤ c .before .args .gained) 4294967296
 remainder-is c = rw (toZ-ofZ (c .before .fits .gained)) at (c .turned .ensures .0 .remainder-is)
 
@@ -24,4 +21,4 @@ returns : tie.Need-returns
 returns c = remainder-is (c .before)
 
 pub wrapped-spec : {M : Type 1} → statement M
-wrapped-spec = tie.close (tie.spec turned-requires cast-result returns)
+wrapped-spec = tie.close (tie.spec (λ c κs. search needs) cast-result returns)

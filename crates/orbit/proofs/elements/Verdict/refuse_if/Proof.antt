@@ -4,12 +4,6 @@ use Rattle.orbit.specs.Elements.{refuseIf}
 use Rattle.orbit.proofs.elements.Verdict.refuse_if.Statement.{statement}
 use Rattle.orbit.proofs.elements.Verdict.refuse_if.Tie as tie
 
-enum-known-self : tie.Need-enum-known-self
-enum-known-self c = search needs
-
-enum-told : tie.Need-enum-told
-enum-told c = search needs
-
 returns : tie.Need-returns
 unfolding refuseIf
 returns c = rw (c .before .self .given .1)
@@ -23,4 +17,4 @@ unfolding refuseIf
 returns-3 c = search needs
 
 pub refuse-if-spec : {M : Type 1} → statement M
-refuse-if-spec = tie.close (tie.spec enum-known-self enum-told returns returns-2 returns-3)
+refuse-if-spec = tie.close (tie.spec (λ c. search needs) (λ c. search needs) returns returns-2 returns-3)
