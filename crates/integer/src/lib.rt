@@ -1,4 +1,5 @@
-// Whole numbers: division rounded down, magnitude, two's-complement bits, the whole square root.
+// Whole numbers: division rounded down, also of a scaled number, magnitude, two's-complement bits, the whole
+// square root.
 ghost use mathlib.Core.Path.{_≡_};
 ghost use Prim.Native.Nat.{_<_, _^_};
 ghost use lib.IntN.{pos, negsuc, natAbs, _*ℤ_};

@@ -86,6 +86,11 @@ fn hint(path: &Path, text: &[u8], malformed: Malformed) -> Option<String> {
     {
         return Some("is it the telemetry? The order is ELEMENTS TELEMETRY LABELS".to_owned());
     }
+    if (malformed.fault, malformed.element)
+        == (Fault::Missing, Some(Element::HalfMeanMotionDerivative))
+    {
+        return Some("write 0 where the mean motion is constant".to_owned());
+    }
     let (line, element) = (line_of(text, malformed.line as usize)?, malformed.element?);
     let value = value_of(line, element)?;
     match malformed.fault {

@@ -281,7 +281,7 @@ fn names() {
         without(11),
         12,
         "half_mean_motion_derivative is missing: the file ends before it",
-        "found the end of the file",
+        "found the end of the file; write 0 where the mean motion is constant",
     );
     malformed("", 1, "eccentricity is missing: the file ends before it", "the file is empty");
 }
