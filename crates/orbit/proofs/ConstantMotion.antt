@@ -21,7 +21,7 @@ use Rattle.orbit.specs.Revolution.{gain, revolution}
 use Rattle.orbit.specs.Time.{timesRefused, timeRefused, checkedAt}
 use Rattle.orbit.specs.Turns.{elapsedOf, wholeTurns, linearTerm, quadraticTerm, advance, meanAnomaly}
 use Rattle.orbit.proofs.Accepted.{least-motion}
-use Rattle.orbit.proofs.AnomalyAndDrift.{part-below, linear-parts}
+use Rattle.orbit.proofs.AdvanceAndDrift.{part-below, linear-parts}
 
 -- ---- the sum of two cases wraps
 module _ (el : Elements) (t : ℤ) (held : el .«mean_anomaly» < 2 ^ 32) where

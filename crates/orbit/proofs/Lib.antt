@@ -1,5 +1,5 @@
 pub mod Accepted
-pub mod AnomalyAndDrift
+pub mod AdvanceAndDrift
 pub mod Revolution
 pub mod Distances
 pub mod Placements

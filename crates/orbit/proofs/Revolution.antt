@@ -11,13 +11,12 @@ use Rattle.integer.specs.Division.{floorZ, modZ}
 use Rattle.integer.proofs.Bounds.{within-pos, within-add, within-more}
 use Rattle.integer.proofs.Division.{parts-floor, floor-mono, floor-later, floor-unique}
 use Rattle.integer.proofs.Parts.{up, dn, signed, parts-add, parts-sub, parts-within, within-parts, parts-le, parts-later, parts-later-square}
-use Rattle.integer.proofs.Sizes.{natAbs-mul}
 use Rattle.orbit.specs.declared.elements.Elements.{Elements}
 use Rattle.orbit.specs.Revolution.{latitudeOf, gain, nodePassages, revolution, NeverFalls}
 use Rattle.orbit.specs.Placement.{perigeeAt}
 use Rattle.orbit.specs.Turns.{elapsedOf, linearTerm, quadraticTerm, advance, meanAnomaly, drift, drifted}
 use Rattle.orbit.proofs.Accepted.{AcceptedAt, accepted-at}
-use Rattle.orbit.proofs.AnomalyAndDrift.{linear-floor, advance-within, drift-within}
+use Rattle.orbit.proofs.AdvanceAndDrift.{linear-floor, product-within, advance-within, drift-within}
 
 -- ---- a turn more is a passage more
 pub turn-counts : (u : ℕ) (x : ℤ) → nodePassages u (x +ℤ pos (2 ^ 32)) ≡ nodePassages u x +ℤ pos 1
@@ -109,8 +108,8 @@ module _ (el : Elements) (t t' : ℤ) (k : ℕ) (a : AcceptedAt el t) (a' : Acce
   quadratic-falls : up (quadraticTerm d Δ) + dn (quadraticTerm d Δ') ≤ up (quadraticTerm d Δ') + (dn (quadraticTerm d Δ) + fall * k)
   unfolding quadraticTerm
   quadratic-falls =
-      let b = parts-within {b = natAbs d * 2_592_000} (d *ℤ Δ) (record { within = rw (natAbs-mul d Δ) (a .near .near) }) .1 in
-      let b' = parts-within {b = natAbs d * 2_592_000} (d *ℤ Δ') (record { within = rw (natAbs-mul d Δ') (a' .near .near) }) .1 in
+      let b = parts-within (d *ℤ Δ) (product-within d Δ (a .near)) .1 in
+      let b' = parts-within (d *ℤ Δ') (product-within d Δ' (a' .near)) .1 in
       omega (arith, floor-later (d *ℤ Δ *ℤ Δ) (d *ℤ Δ' *ℤ Δ') _ _ k (2 ^ 10) 177_978_515_625 0 fall (lit< tt) (parts-later-square d Δ Δ' k elapsed-later) (omega arith))
 
   -- A rises by at least 9,941 a second

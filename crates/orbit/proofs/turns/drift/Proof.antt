@@ -11,7 +11,7 @@ use Rattle.integer.specs.Bound.{Within}
 use Rattle.integer.specs.Division.{floorZ}
 use Rattle.integer.proofs.Bounds.{within-pos, within-mul, sfits-within}
 use Rattle.orbit.specs.Turns.{drift}
-use Rattle.orbit.proofs.AnomalyAndDrift.{drift-within}
+use Rattle.orbit.proofs.AdvanceAndDrift.{drift-within}
 use Rattle.orbit.proofs.turns.drift.Statement.{statement}
 use Rattle.orbit.proofs.turns.drift.Tie as tie
 

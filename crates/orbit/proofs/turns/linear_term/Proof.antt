@@ -11,7 +11,7 @@ use mir.Facts.{toZ-ofZ, toZ-pos}
 use Rattle.integer.specs.Bound.{Within}
 use Rattle.integer.proofs.Bounds.{within-pos, within-mul, within-more, sfits-within}
 use Rattle.orbit.specs.Turns.{linearTerm}
-use Rattle.orbit.proofs.AnomalyAndDrift.{linear-floor, linear-within}
+use Rattle.orbit.proofs.AdvanceAndDrift.{linear-floor, linear-within}
 use Rattle.orbit.proofs.turns.linear_term.Statement.{statement}
 use Rattle.orbit.proofs.turns.linear_term.Tie as tie
 

@@ -9,7 +9,7 @@ use mir.Facts.{toZ-ofZ, sfits-widen}
 use Rattle.integer.specs.Bound.{Within}
 use Rattle.integer.proofs.Bounds.{within-mul, within-more, sfits-within}
 use Rattle.orbit.specs.Turns.{quadraticTerm}
-use Rattle.orbit.proofs.AnomalyAndDrift.{square-within, quadratic-within}
+use Rattle.orbit.proofs.AdvanceAndDrift.{square-within, quadratic-within}
 use Rattle.orbit.proofs.turns.quadratic_term.Statement.{statement}
 use Rattle.orbit.proofs.turns.quadratic_term.Tie as tie
 

@@ -55,6 +55,9 @@ unfolding quadraticTerm
 one-below = refl
 
 module _ (d Δ : ℤ) (h : Near d Δ) where
+  pub product-within : Within (natAbs d * 2_592_000) (d *ℤ Δ)
+  product-within = record { within = rw (natAbs-mul d Δ) (h .near) }
+
   -- d·Δ² is at most that of the greatest d in 30 days
   pub square-within : Within (1_000_000 * 2_592_000 * 2_592_000) (d *ℤ Δ *ℤ Δ)
   square-within =
