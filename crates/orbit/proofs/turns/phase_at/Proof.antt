@@ -1,8 +1,8 @@
 -- `orbit::turns::phase_at` meets its contract. Assumes nothing.
 use borrow.Author.Needs.{needs}
 use mathlib.Core.Path.{_≡_, _∙_, ap}
-use Prim.Native.Nat.{ℕ, _+_, _*_}
-use lib.Dec.{T, leb, leb→le, lit≤}
+use Prim.Native.Nat.{_*_}
+use lib.Dec.{lit≤}
 use lib.IntN.{ℤ, pos, _+ℤ_}
 use mir.Syntax.{w32, w64}
 use mir.Val.{SFits, toZ, ofZ}
@@ -56,17 +56,8 @@ quadratic-is c =
     let e = c .before .before .before in
     read-back (c .quadratic-term .result) (c .quadratic-term .ok) ∙ rw (elapsed-is e, toZ-ofZ (derivative-fits (e .before))) at (c .quadratic-term .ensures .0)
 
-sum-within : {a b : ℕ} {x y : ℤ} → Within a x → Within b y → T (leb (a + b) 42949672960000) → Within (10000 * 4294967296) (x +ℤ y)
-sum-within h k t = within-more (within-add h k) (leb→le _ _ t)
-
-sum-fits : {a b : ℕ} {x y : ℤ} → Within a x → Within b y → T (leb (a + b) 42949672960000) → SFits w64 (x +ℤ y)
-sum-fits h k t = sfits-within (sum-within h k t) tt
-
 add-advance : tie.Need-add-advance
-add-advance c =
-    let l = linear-small (c .before .before) in
-    let q = quadratic-small c in
-    sum-fits l q tt
+add-advance c = sfits-within (within-add (linear-small (c .before .before)) (quadratic-small c)) tt
 
 advance-is : (c : tie.After-quadratic-term) → let a = c .before .before .before .before .args in toZ w64 (ofZ w64 (toZ w64 (ofZ w64 (c .before .before .linear-term .result)) +ℤ toZ w64 (ofZ w64 (c .quadratic-term .result)))) ≡ advance (a .elements) (a .time)
 unfolding advance
@@ -106,10 +97,16 @@ wrapped-requires-2 : tie.Need-wrapped-requires-2
 wrapped-requires-2 c κs = within-more (drift-small (c .before)) (lit≤ tt)
 
 -- ---- the revolution
+sum-within : {x y : ℤ} → Within (9000 * 4294967296) x → Within (1000 * 4294967296) y → Within (10000 * 4294967296) (x +ℤ y)
+sum-within h k = within-more (within-add h k) (lit≤ tt)
+
+sum-fits : {x y : ℤ} → Within (9000 * 4294967296) x → Within (1000 * 4294967296) y → SFits w64 (x +ℤ y)
+sum-fits h k = sfits-within (sum-within h k) tt
+
 add-revolution : tie.Need-add-revolution
 add-revolution c =
     let q = c .before .before .before .before in
-    let l = linear-small (q .before .before) in
+    let l = within-more {b = 9000 * 4294967296} (linear-small (q .before .before)) (lit≤ tt) in
     let a = advance-small q in
     let b = drift-small (c .before .before) in
     search (needs, sum-fits)
@@ -117,7 +114,7 @@ add-revolution c =
 revolution-requires : tie.Need-revolution-requires
 revolution-requires c κs =
     let q = c .before .before .before .before in
-    let l = linear-small (q .before .before) in
+    let l = within-more {b = 9000 * 4294967296} (linear-small (q .before .before)) (lit≤ tt) in
     let a = advance-small q in
     let b = drift-small (c .before .before) in
     let e = passed (start (c .before .before)) .elements .revolution-le in
