@@ -166,7 +166,7 @@ uint32_t yurdelmiz_position(const uint8_t *elements, size_t elements_len, int64_
 /* Whether a position (metres) is in the Earth's shadow. Refusal 14.
  *
  *   answer, 1 byte:
- *     0  u8   0 lit, 1 dark
+ *     0  u8   0 lit, 1 dark (in the umbra), 2 part (in the penumbra)
  */
 uint32_t yurdelmiz_shade(int64_t x, int64_t y, int64_t z,
                          int64_t sun_x, int64_t sun_y, int64_t sun_z,
@@ -204,7 +204,7 @@ uint64_t yurdelmiz_elements(const uint8_t *text, size_t text_len,
  *     0  i64  time
  *     8  i32  revolution, as in the answer of yurdelmiz_position
  *    12  u8   side: 0 withheld, 1 training, 2 test
- *    13  u8   shade: 0 lit, 1 dark
+ *    13  u8   shade: 0 lit, 1 dark, 2 part, as in the answer of yurdelmiz_shade
  *    14  u8   reading: 0 missing, 1 valid, 2 saturated
  *    15  u8   0
  *    16  i32  sine of the Sun's elevation above the orbit plane

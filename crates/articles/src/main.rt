@@ -1,11 +1,11 @@
 // Prints the worked example of source document 001, for Oscar-10 on 1985 August 12 at 01:45, beside
 // the articles' figures.
-use eclipse::Shade;
 use eclipse::ShadeAnswer;
 use libc::STDOUT_FILENO;
 use orbit::Placement;
 use orbit::State;
 use orbit::elements::Elements;
+use shade::Shade;
 use sun::Direction;
 use sun::Sun;
 use sun::SunAnswer;
@@ -106,8 +106,9 @@ fn of_state(state: State, sun: Direction) {
     match shade {
         ShadeAnswer::Refused(_) => text(b"refused\n"),
         ShadeAnswer::Shaded(seen) => match seen {
-            Shade::Dark => text(b"dark\n"),
             Shade::Lit => text(b"lit\n"),
+            Shade::Dark => text(b"dark\n"),
+            Shade::Part => text(b"part\n"),
         },
     }
 }

@@ -7,7 +7,7 @@ use lib.Dec.{ltb, lit≤}
 use lib.IntN.{ℤ, pos, natAbs, _+ℤ_, _-ℤ_, _*ℤ_}
 use lib.Signed.{quotZ}
 use Rattle.integer.specs.Bound.{Within}
-use Rattle.integer.proofs.Bounds.{within-add, within-sub, within-mul, within-quot, within-more}
+use Rattle.integer.proofs.Bounds.{within-add, within-sub, within-mul, within-quot, within-pos, within-more}
 use Rattle.integer.proofs.Tests.{or-false}
 use Rattle.position.specs.Box.{CelestialBox}
 use Rattle.position.specs.declared.Position.{Position}
@@ -15,6 +15,7 @@ use Rattle.sun.specs.Contract.{WithinOne}
 use Rattle.sun.specs.declared.Direction.{Direction}
 use Rattle.eclipse.specs.Dot.{dotOf}
 use Rattle.eclipse.specs.Shade.{projection, anyBeyond}
+use Rattle.eclipse.specs.Contract.{DepthBound, RadiusBound}
 
 -- the numbers on the way to a scalar product
 pub record DotSizes (x y z : ℤ) (d : Direction) : Type 0 where
@@ -44,7 +45,7 @@ pub record SideSizes (q : Position) (p : ℤ) : Type 0 where
   pub three : Within (3 * 2 ^ 60) (q .x *ℤ q .x +ℤ q .y *ℤ q .y +ℤ q .z *ℤ q .z)
   pub whole : Within (7 * 2 ^ 60) (q .x *ℤ q .x +ℤ q .y *ℤ q .y +ℤ q .z *ℤ q .z -ℤ p *ℤ p)
 
-pub side-sizes : {q : Position} {p : ℤ} → CelestialBox q × Within (2 ^ 31) p → SideSizes q p
+pub side-sizes : {q : Position} {p : ℤ} → CelestialBox q × DepthBound p → SideSizes q p
 side-sizes (b, h) =
     let x = within-more (within-mul (b .x-within) (b .x-within)) (lit≤ tt) in
     let y = within-more (within-mul (b .y-within) (b .y-within)) (lit≤ tt) in
@@ -53,7 +54,24 @@ side-sizes (b, h) =
     let s = within-add (within-add x y) z in
     record { xx = x; yy = y; zz = z; pp = p; two = within-add x y; three = s; whole = within-sub s p }
 
-pub projection-within : {q : Position} {sun : Direction} → CelestialBox q → WithinOne sun → Within (2 ^ 31) (projection q sun)
+-- the numbers on the way to a spread
+pub record SpreadSizes (d k : ℤ) : Type 0 where
+  pub product : Within (2 ^ 61) (d *ℤ k)
+  pub whole : Within (2 ^ 24) (quotZ (d *ℤ k) (pos 149_600_000_000))
+
+pub spread-sizes : {d k : ℤ} → DepthBound d × Within (2 ^ 30) k → SpreadSizes d k
+spread-sizes (g, h) =
+    let p = within-mul g h in
+    record { product = p; whole = within-more (within-quot 149_600_000_000 p) (lit≤ tt) }
+
+-- a shadow's radius from its spread
+pub umbra-within : {s : ℤ} → Within (2 ^ 24) s → RadiusBound (pos 6_378_000 -ℤ s)
+umbra-within h = within-more (within-sub (within-pos {a = 6_378_000} (lit≤ tt)) h) (lit≤ tt)
+
+pub penumbra-within : {s : ℤ} → Within (2 ^ 24) s → RadiusBound (pos 6_378_000 +ℤ s)
+penumbra-within h = within-more (within-add (within-pos {a = 6_378_000} (lit≤ tt)) h) (lit≤ tt)
+
+pub projection-within : {q : Position} {sun : Direction} → CelestialBox q → WithinOne sun → DepthBound (projection q sun)
 unfolding dotOf
 projection-within b w =
     let x = within-mul (b .x-within) (w .x-within) in

@@ -1,14 +1,15 @@
 -- The cases of the shade rule and of refusal 14, each from the tests that lead to it. Assumes nothing.
-use mathlib.Core.Path.{_≡_}
-use mathlib.Core.Bool.{Bool, true, false, cond}
+use mathlib.Core.Path.{_≡_, refl}
+use mathlib.Core.Bool.{true, false}
 use Prim.Native.Nat.{_^_}
-use lib.IntN.{ℤ, pos}
+use lib.IntN.{ℤ, pos, negℤ}
 use lib.Signed.{ltZ}
 use Rattle.refusal.specs.declared.Refusal.the-variants.{Component}
+use Rattle.shade.specs.declared.Shade.the-variants.{Lit}
 use Rattle.position.specs.declared.Position.{Position}
 use Rattle.sun.specs.declared.Direction.{Direction}
-use Rattle.eclipse.specs.Shade.{projection, sideSquared, shadeOf, anyBeyond, outOfRange, shadeAnswer}
-use Rattle.eclipse.specs.declared.Shade.the-variants.{Lit, Dark}
+use Rattle.eclipse.specs.Shade.{projection, sideSquared, shadeBehind, shadeOf, anyBeyond, outOfRange, shadeAnswer}
+use Rattle.eclipse.specs.ShadeLaws.{SunwardLit}
 use Rattle.eclipse.specs.declared.ShadeAnswer.the-variants.{Shaded, Refused}
 
 module _ (q : Position) (sun : Direction) (p : ℤ) (e : p ≡ projection q sun) where
@@ -16,9 +17,12 @@ module _ (q : Position) (sun : Direction) (p : ℤ) (e : p ≡ projection q sun)
   unfolding shadeOf
   lit-before t = rw (← e, t)
 
-  pub behind : {dark : Bool} → ltZ p (pos 0) ≡ true → ltZ (sideSquared q p) (pos (6_378_000 ^ 2)) ≡ dark → cond dark Dark Lit ≡ shadeOf q sun
+  pub shaded-behind : ltZ p (pos 0) ≡ true → shadeBehind (negℤ p) (sideSquared q p) ≡ shadeOf q sun
   unfolding shadeOf
-  behind t u = rw (← e, t, u)
+  shaded-behind t = rw (← e, t)
+
+pub sunward-lit : SunwardLit
+sunward-lit q sun = lit-before q sun _ refl
 
 module _ (q : Position) (sun : Direction) where
   pub position-refused : anyBeyond 200_000_000 (q .x) (q .y) (q .z) ≡ true → Refused Component ≡ shadeAnswer q sun

@@ -4,37 +4,28 @@ ghost use Prim.Native.Nat.{_^_};
 ghost use Rattle.integer.specs.Bound.{Within};
 ghost use Rattle.sun.specs.Contract.{WithinOne};
 ghost use Rattle.eclipse.specs.Dot.{dotOf};
-ghost use Rattle.eclipse.specs.Shade.{shadeCode, sideSquared, shadeOf, anyBeyond, shadeAnswer};
+ghost use Rattle.eclipse.specs.Shade.{sideSquared, belowSquare, shadeBehind, shadeOf, anyBeyond, shadeAnswer};
 ghost use Rattle.position.specs.Box.{CelestialBox};
 ghost use Rattle.trig.specs.Contract.{SinesOf};
-ghost use Rattle.eclipse.specs.Contract.{HeldAt, NormalAt, ElevationAt};
+ghost use Rattle.eclipse.specs.Contract.{DepthBound, RadiusBound, SpreadAt, HeldAt, NormalAt, ElevationAt};
 use integer::ONE;
 use position::Position;
 use refusal::Refusal;
+use shade::Shade;
 use sun::Direction;
 use trig::Sines;
 
-// The square of the Earth's radius in metres.
-const EARTH_RADIUS_SQUARED: i64 = 6_378_000 * 6_378_000;
+// Lengths in metres.
+const EARTH_RADIUS: i64 = 6_378_000;
+
+const SUN_DISTANCE: i64 = 149_600_000_000;
+
+// The Sun's radius of 696,000 km less the Earth's, and the two together.
+const RADII_APART: i64 = 689_622_000;
+
+const RADII_TOGETHER: i64 = 702_378_000;
 
 const MINUS_ONE: i64 = -ONE;
-
-pub enum Shade {
-    Lit,
-    Dark,
-}
-
-impl Shade {
-    // The number of a shade, as labels and answers have it.
-    pub fn code(self) -> u8
-        ensures { λ r. ⌜ r ≡ shadeCode self ⌝ }
-    {
-        match self {
-            Shade::Lit => 0,
-            Shade::Dark => 1,
-        }
-    }
-}
 
 pub enum ShadeAnswer {
     Shaded(Shade),
@@ -51,13 +42,44 @@ fn dot(x: i64, y: i64, z: i64, direction: Direction) -> i64
 
 // The square of the distance from the line through the Earth and the Sun.
 fn side_squared(position: Position, p: i64) -> i64
-    requires { ⌜ CelestialBox position × Within (2 ^ 31) p ⌝ }
+    requires { ⌜ CelestialBox position × DepthBound p ⌝ }
     ensures { λ r. ⌜ r ≡ sideSquared position p ⌝ }
 {
     let x = position.x;
     let y = position.y;
     let z = position.z;
     x * x + y * y + z * z - p * p
+}
+
+// What a shadow's radius differs by from the Earth's at a depth.
+fn spread(depth: i64, radii: i64) -> i64
+    requires { ⌜ DepthBound depth × Within (2 ^ 30) radii ⌝ }
+    ensures { λ r. ⌜ SpreadAt depth radii r ⌝ }
+{
+    depth * radii / SUN_DISTANCE
+}
+
+fn below_square(squared_side: i64, radius: i64) -> bool
+    requires { ⌜ RadiusBound radius ⌝ }
+    ensures { λ r. ⌜ r ≡ belowSquare «squared_side» radius ⌝ }
+{
+    squared_side < radius * radius
+}
+
+// The shade at a depth behind the Earth.
+fn shade_behind(depth: i64, squared_side: i64) -> Shade
+    requires { ⌜ DepthBound depth ⌝ }
+    ensures { λ r. ⌜ r ≡ shadeBehind depth «squared_side» ⌝ }
+{
+    let umbra = EARTH_RADIUS - spread(depth, RADII_APART);
+    if below_square(squared_side, umbra) {
+        return Shade::Dark;
+    }
+    let penumbra = EARTH_RADIUS + spread(depth, RADII_TOGETHER);
+    if below_square(squared_side, penumbra) {
+        return Shade::Part;
+    }
+    Shade::Lit
 }
 
 // The shade at a celestial position. It makes no test of refusal 14: it is for labelling, whose positions and Suns
@@ -68,11 +90,7 @@ pub fn shade_at(position: Position, sun: Direction) -> Shade
 {
     let p = dot(position.x, position.y, position.z, sun);
     if p < 0 {
-        if side_squared(position, p) < EARTH_RADIUS_SQUARED {
-            Shade::Dark
-        } else {
-            Shade::Lit
-        }
+        shade_behind(0 - p, side_squared(position, p))
     } else {
         Shade::Lit
     }

@@ -2,12 +2,13 @@
 ghost use mathlib.Core.Path.{_≡_};
 ghost use Rattle.label.specs.Rules.{shadeAllowed, elevationAllowed, wattsAllowed, keepsRules};
 use crate::fields::Fields;
+use shade::Shade;
 use telemetry::float;
 
 fn shade_allowed(shade: u8) -> bool
     ensures { λ r. ⌜ r ≡ shadeAllowed shade ⌝ }
 {
-    shade <= 1
+    shade <= Shade::Part.code()
 }
 
 fn elevation_allowed(elevation: i32) -> bool

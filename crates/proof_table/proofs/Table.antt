@@ -4,10 +4,10 @@ use Rattle.trig.specs.Sine.{S, inQuarter, quarterSine, uncapped, series, horner
 use Rattle.kepler.specs.Kepler.{g, h, equation, halve, anomaly, halvings}
 use Rattle.kepler.specs.Solution.{solution}
 use Rattle.eclipse.specs.Dot.{dotOf}
-use Rattle.eclipse.specs.Shade.{sideSquared, shadeOf, anyBeyond, outOfRange, shadeAnswer}
+use Rattle.eclipse.specs.Shade.{sideSquared, spread, umbraRadius, penumbraRadius, belowSquare, shadeBehind, shadeOf, anyBeyond, outOfRange, shadeAnswer}
 use Rattle.label.specs.Sides.{sideOf}
 use Rattle.proof_table.specs.Rows.{anomalyOr, shadeOr, shadeAlongX, rows, givenBy, saidBy}
 
 pub table : givenBy rows ≡ saidBy rows
-unfolding givenBy saidBy rows anomalyOr shadeOr shadeAlongX S inQuarter quarterSine uncapped series hornerStep square radians solution anomaly halvings halve equation h g shadeAnswer outOfRange anyBeyond shadeOf sideSquared dotOf sideOf
+unfolding givenBy saidBy rows anomalyOr shadeOr shadeAlongX S inQuarter quarterSine uncapped series hornerStep square radians solution anomaly halvings halve equation h g shadeAnswer outOfRange anyBeyond shadeOf shadeBehind belowSquare umbraRadius penumbraRadius spread sideSquared dotOf sideOf
 table = refl

@@ -7,7 +7,8 @@ use Rattle.trig.specs.Sine.{S}
 use Rattle.kepler.specs.Solution.{solution}
 use Rattle.kepler.specs.declared.Solution.{Solution}
 use Rattle.kepler.specs.declared.Solution.the-variants as solved
-use Rattle.eclipse.specs.Shade.{shadeCode, shadeAnswer}
+use Rattle.shade.specs.Codes.{shadeCode}
+use Rattle.eclipse.specs.Shade.{shadeAnswer}
 use Rattle.eclipse.specs.declared.ShadeAnswer.{ShadeAnswer}
 use Rattle.eclipse.specs.declared.ShadeAnswer.the-variants as shaded
 use Rattle.label.specs.Sides.{sideOf}
@@ -26,7 +27,7 @@ unfoldable pub anomalyOr : Solution → ℤ
 anomalyOr (solved.Solved r) = pos (r .angle)
 anomalyOr (solved.Refused r) = negℤ (pos (numberOf r))
 
--- 1 dark, 0 lit, and the refusal's number below zero
+-- the code of a shade, and the refusal's number below zero
 unfoldable pub shadeOr : ShadeAnswer → ℤ
 shadeOr (shaded.Shaded s) = pos (shadeCode s)
 shadeOr (shaded.Refused r) = negℤ (pos (numberOf r))
@@ -41,8 +42,10 @@ rows =
     (S 0 is pos 0) ∷ (S 1 is pos 1) ∷ (S 2 is pos 3) ∷ (S (2 ^ 30) is pos (2 ^ 30)) ∷ (S (2 ^ 31) is pos 0) ∷ (S (2 ^ 32 - 1) is negℤ (pos 1))
     -- M = 2^31 with e = 9,000,000 gives E = 2^31; M = 0 gives 0; 9,000,001 gives 1
     ∷ (anomalyOr (solution 9_000_000 (2 ^ 31)) is pos (2 ^ 31)) ∷ (anomalyOr (solution 9_000_000 0) is pos 0) ∷ (anomalyOr (solution 9_000_001 0) is negℤ (pos 1))
-    -- with the Sun along x: dark, and lit at the Earth's radius and at noon
-    ∷ (shadeAlongX (negℤ (pos 42_164_000)) (pos 6_377_999) is pos 1) ∷ (shadeAlongX (negℤ (pos 42_164_000)) (pos 6_378_000) is pos 0) ∷ (shadeAlongX (pos 42_164_000) (pos 0) is pos 0)
+    -- with the Sun along x: the last metre of the umbra, the first and last of the penumbra, the first in sunlight, and noon
+    ∷ (shadeAlongX (negℤ (pos 42_164_000)) (pos 6_183_633) is pos 1) ∷ (shadeAlongX (negℤ (pos 42_164_000)) (pos 6_183_634) is pos 2)
+    ∷ (shadeAlongX (negℤ (pos 42_164_000)) (pos 6_575_960) is pos 2) ∷ (shadeAlongX (negℤ (pos 42_164_000)) (pos 6_575_961) is pos 0)
+    ∷ (shadeAlongX (pos 42_164_000) (pos 0) is pos 0)
     -- sides of revolutions
     ∷ (pos (sideOf (pos 16)) is pos 0) ∷ (pos (sideOf (pos 17)) is pos 1) ∷ (pos (sideOf (pos 65)) is pos 2) ∷ []
 

@@ -22,7 +22,8 @@ use Rattle.orbit.specs.declared.Placement.the-variants as placement
 use Rattle.elements_file.specs.Reading.{parsed}
 use Rattle.elements_file.specs.declared.Parsed.{Parsed}
 use Rattle.elements_file.specs.declared.Parsed.the-variants as parsed
-use Rattle.eclipse.specs.Shade.{shadeCode, shadeAnswer}
+use Rattle.shade.specs.Codes.{shadeCode}
+use Rattle.eclipse.specs.Shade.{shadeAnswer}
 use Rattle.eclipse.specs.declared.ShadeAnswer.{ShadeAnswer}
 use Rattle.eclipse.specs.declared.ShadeAnswer.the-variants as shade
 use Rattle.label_file.specs.Reading.{bufferReading}

@@ -20,6 +20,8 @@ const SEED: u32 = 10;
 /// Degrees of the spin axis from the direction of perigee, in the orbit's plane.
 const TWIST: f64 = -30.0;
 const PANEL_WATTS: f64 = 48.0;
+/// Of the panels' watts in sunlight, what they give in the penumbra.
+const PENUMBRA_SHARE: f64 = 0.5;
 const HOUSEKEEPING_WATTS: f64 = 7.5;
 const TRANSPONDER_WATTS: f64 = 15.0;
 /// Degrees of mean anomaly at which the transponder is switched on and off.
@@ -102,7 +104,7 @@ fn radians(angle: u32) -> f64 {
     f64::from(angle) * std::f64::consts::TAU / 4_294_967_296.0
 }
 
-/// Mean anomaly in degrees, and the lit share of the panels: 0 in the Earth's shadow.
+/// Mean anomaly in degrees, and the lit share of the panels: 0 in the umbra.
 fn illumination(elements: &Elements, time: i64) -> Result<(f64, f64), Box<dyn Error>> {
     let days = (time - elements.epoch) as f64 / 86_400.0;
     let change = f64::from(elements.half_mean_motion_derivative) * days;
@@ -110,9 +112,11 @@ fn illumination(elements: &Elements, time: i64) -> Result<(f64, f64), Box<dyn Er
     let mean = (radians(elements.mean_anomaly).to_degrees() + 360.0 * turns).rem_euclid(360.0);
     let state = position(elements, time)?;
     let sun = sun(time)?.direction;
-    if shade(state.celestial, sun)? == Shade::Dark {
-        return Ok((mean, 0.0));
-    }
+    let share = match shade(state.celestial, sun)? {
+        Shade::Lit => 1.0,
+        Shade::Part => PENUMBRA_SHARE,
+        Shade::Dark => return Ok((mean, 0.0)),
+    };
     let rate = f64::from(elements.perigee_rate) * 1e-4;
     let turn = radians(elements.argument_of_perigee) + (rate * days - TWIST).to_radians();
     let (inclination, node) = (radians(elements.inclination), radians(state.node));
@@ -124,7 +128,7 @@ fn illumination(elements: &Elements, time: i64) -> Result<(f64, f64), Box<dyn Er
     ];
     let sun = [sun.x, sun.y, sun.z].map(|component| component as f64 / f64::from(1 << 30));
     let along: f64 = axis.iter().zip(sun).map(|(a, s)| a * s).sum();
-    Ok((mean, (1.0 - along * along).sqrt()))
+    Ok((mean, share * (1.0 - along * along).sqrt()))
 }
 
 /// Rounded to some decimal places, as a telemetry channel gives it.
@@ -154,6 +158,7 @@ fn telemetry(elements: &Elements) -> Result<Vec<u8>, Box<dyn Error>> {
     for record in 0..RECORDS {
         let time = START + STEP_SECONDS * record as i64;
         let (mean, lit) = illumination(elements, time)?;
+        // The penumbra does not switch it off.
         let transponder = lit > 0.0 && TRANSPONDER_ON.contains(&mean);
         let load = HOUSEKEEPING_WATTS + if transponder { TRANSPONDER_WATTS } else { 0.0 };
         // The charger gives less as the battery fills.

@@ -13,6 +13,29 @@ fn document_01() {
     folder.run(["list", "day"]).is(0, "labels 1 training 1 test 0\n86400 17 1 1 1 -1 41200000\n");
 }
 
+/// A code in the lines, a word in CSV and JSON.
+#[test]
+fn shades() {
+    let folder = Folder::new();
+    let words = ["lit", "dark", "part"];
+    let labels = [0, 1, 2].map(|shade| label_with(13, &[shade]));
+    folder.write("day", label_file(&labels));
+    let mut lines = "labels 3 training 3 test 0\n".to_owned();
+    for code in 0..3 {
+        lines.push_str(&format!("86400 17 1 {code} 1 -1 41200000\n"));
+    }
+    folder.run(["list", "day"]).is(0, &lines);
+    let csv = folder.run(["list", "--csv", "day"]).stdout;
+    let found: Vec<&str> = csv.lines().skip(1).map(|row| row.split(',').nth(3).unwrap()).collect();
+    assert_eq!(found, words);
+    let json = folder.run(["list", "--json", "day"]).stdout;
+    let objects: Vec<&str> = json.lines().filter(|line| line.contains("\"shade\"")).collect();
+    assert_eq!(objects.len(), 3);
+    for (object, word) in objects.iter().zip(words) {
+        assert!(object.contains(&format!("\"shade\": \"{word}\", ")), "{object}");
+    }
+}
+
 /// Any bytes of others may stand ahead of the first label; a pipe is read as a file is.
 #[test]
 fn bytes_ahead() {
@@ -163,7 +186,8 @@ fn field_rules() {
         (label_with(8, &[16]), "its side is 1 (training), and revolution 16 is 0 (withheld)"),
         (label_with(8, &[65]), "its side is 1 (training), and revolution 65 is 2 (test)"),
         (label_with(12, &[7]), "its side is 7, which is none, and revolution 17 is 1 (training)"),
-        (label_with(13, &[2]), "its shade is 2, and 0 to 1 are known"),
+        (label_with(13, &[3]), "its shade is 3, and 0 to 2 are known"),
+        (label_with(13, &[255]), "its shade is 255, and 0 to 2 are known"),
         (label_with(14, &[3]), "its reading is 3, and 0 to 2 are known"),
         (label_with(15, &[9]), "its byte 15 is 9, and is always 0"),
         (

@@ -4,11 +4,18 @@ mod common;
 
 use common::{label_file, Folder, LABEL, LABELS};
 
+/// The shades of a label, and the fills of their bands.
+const LIT: u8 = 0;
+const DARK: u8 = 1;
+const PART: u8 = 2;
+const UMBRA: &str = "#c3ccda";
+const PENUMBRA: &str = "#e0e6ee";
+
 /// A label of the first revolution's training side.
-fn label(time: i64, dark: bool, reading: u8, watts: f32) -> [u8; 24] {
+fn label(time: i64, shade: u8, reading: u8, watts: f32) -> [u8; 24] {
     let mut label = LABEL;
     label[..8].copy_from_slice(&time.to_le_bytes());
-    label[13] = u8::from(dark);
+    label[13] = shade;
     label[14] = reading;
     let bits = if reading == 1 { watts.to_bits() } else { 0 };
     label[20..].copy_from_slice(&bits.to_le_bytes());
@@ -16,7 +23,7 @@ fn label(time: i64, dark: bool, reading: u8, watts: f32) -> [u8; 24] {
 }
 
 fn valid(time: i64, watts: f32) -> [u8; 24] {
-    label(time, false, 1, watts)
+    label(time, LIT, 1, watts)
 }
 
 /// The picture of some labels, as its elements.
@@ -71,11 +78,23 @@ impl Picture {
         paths.iter().map(|path| path.matches("h0").count()).sum()
     }
 
-    /// The bands of shadow in the upper panel, from left to right.
-    fn shadows(&self) -> Vec<(f64, f64)> {
-        let bands = self.lines("fill=\"#dfe3ea\"");
-        let upper = bands.iter().filter(|line| attribute(line, "y").is_some_and(|y| y == "128"));
-        upper.map(|line| (number(line, "x"), number(line, "width"))).collect()
+    /// The fills of the bands of a panel, which has its top at `y`, with their places, from left to right.
+    fn bands(&self, y: &str) -> Vec<(&str, (f64, f64))> {
+        let bands = self.0.iter().filter(|line| {
+            let fill = attribute(line, "fill").unwrap_or_default();
+            [UMBRA, PENUMBRA].contains(&fill) && attribute(line, "y") == Some(y)
+        });
+        let place = |line: &str| (number(line, "x"), number(line, "width"));
+        let mut bands: Vec<_> =
+            bands.map(|line| (attribute(line, "fill").unwrap(), place(line))).collect();
+        bands.sort_by(|one, other| one.1 .0.total_cmp(&other.1 .0));
+        bands
+    }
+
+    /// The bands of one fill in the upper panel, from left to right.
+    fn bands_of(&self, fill: &str) -> Vec<(f64, f64)> {
+        let bands = self.bands("128").into_iter().filter(|band| band.0 == fill);
+        bands.map(|band| band.1).collect()
     }
 
     /// The strips of the revolutions.
@@ -103,7 +122,8 @@ fn the_example_day() {
         "training (227)",
         "test (267)",
         "withheld (466)",
-        "shadow (87)",
+        "umbra (75)",
+        "penumbra (23)",
         "missing (13)",
         "saturated (6)",
         "revolution 1664",
@@ -113,7 +133,8 @@ fn the_example_day() {
     }
     assert_eq!(picture.dots("4.2"), 960 - 13 - 6);
     assert_eq!(picture.dots("3.2"), 960);
-    assert_eq!(picture.shadows().len(), 3);
+    // The day ends in the umbra of its third eclipse.
+    assert_eq!((picture.bands_of(UMBRA).len(), picture.bands_of(PENUMBRA).len()), (3, 5));
     assert_eq!(picture.strips().len(), 3);
     assert!(picture.lines("beyond the scale").is_empty());
 }
@@ -124,20 +145,76 @@ fn one_record() {
     picture.says(">Battery power and sunlight<");
     picture.says("day.labels, 1989-12-31 00:00 UTC, 1 label<");
     assert_eq!((picture.dots("6"), picture.strips().len()), (1, 1));
-    assert!(picture.shadows().is_empty());
+    assert!(picture.bands("128").is_empty());
 }
 
 #[test]
-fn all_dark() {
-    let labels: Vec<_> = (0..120).map(|record| label(90 * record, true, 1, -7.0)).collect();
+fn all_in_shadow() {
+    for (shade, fill) in [(DARK, UMBRA), (PART, PENUMBRA)] {
+        let labels: Vec<_> = (0..120).map(|record| label(90 * record, shade, 1, -7.0)).collect();
+        let picture = Picture::of(&label_file(&labels), &[]);
+        let bands = picture.bands("128");
+        assert_eq!(bands.len(), 1);
+        assert_eq!(bands[0].0, fill);
+        assert!(bands[0].1 .1 > 1_000.0);
+        // The gridlines are drawn over the band, and seen on it.
+        let at = |part: &str| picture.0.iter().position(|line| line.contains(part)).unwrap();
+        let part = format!("fill=\"{fill}\"");
+        let band = picture.0.iter().rposition(|line| line.contains(&part)).unwrap();
+        assert!(at("stroke-opacity") > band);
+    }
+}
+
+/// An eclipse: the umbra with the penumbra on both sides of it, and nothing between them.
+#[test]
+fn an_eclipse() {
+    let shades = [(LIT, 40), (PART, 3), (DARK, 30), (PART, 2), (LIT, 25)];
+    let shades = shades.into_iter().flat_map(|(shade, records)| vec![shade; records]);
+    let labels: Vec<_> =
+        shades.enumerate().map(|(at, shade)| label(90 * at as i64, shade, 1, 1.0)).collect();
     let picture = Picture::of(&label_file(&labels), &[]);
-    let shadows = picture.shadows();
-    assert_eq!(shadows.len(), 1);
-    assert!(shadows[0].1 > 1_000.0);
-    // The gridlines are drawn over the shadow, and seen on it.
-    let at = |part: &str| picture.0.iter().position(|line| line.contains(part)).unwrap();
-    let band = picture.0.iter().rposition(|line| line.contains("fill=\"#dfe3ea\"")).unwrap();
-    assert!(at("stroke-opacity") > band);
+    picture.says(">umbra (30)<");
+    picture.says(">penumbra (5)<");
+    for panel in ["128", "484"] {
+        let bands = picture.bands(panel);
+        let fills: Vec<&str> = bands.iter().map(|band| band.0).collect();
+        assert_eq!(fills, [PENUMBRA, UMBRA, PENUMBRA]);
+        // A record is as wide as the next.
+        let record = bands[1].1 .1 / 30.0;
+        for (band, records) in bands.iter().zip([3.0, 30.0, 2.0]) {
+            assert!((band.1 .1 - records * record).abs() < 0.2, "{bands:?}");
+        }
+        for pair in bands.windows(2) {
+            let ((_, (left, width)), (_, (next, _))) = (pair[0], pair[1]);
+            // Lengths have a tenth.
+            assert!((left + width - next).abs() < 0.15, "{bands:?}");
+        }
+    }
+    // The legend has the umbra ahead of the penumbra.
+    let legend: Vec<&str> = picture.bands("62").iter().map(|band| band.0).collect();
+    assert_eq!(legend, [UMBRA, PENUMBRA]);
+}
+
+/// With as many entries as there are and the longest of texts, the legend is within the picture.
+#[test]
+fn the_legend_stays_inside() {
+    let mut labels: Vec<_> =
+        (0..1_024).map(|at| label(90 * at, DARK, 1, (at % 9) as f32)).collect();
+    labels[50] = valid(90 * 50, -1.2345e30);
+    labels[70] = valid(90 * 70, -1.2345e38);
+    labels[80] = valid(90 * 80, 1.2345e38);
+    let picture = Picture::of(&label_file(&labels), &[]);
+    let entries = ["training", "test", "withheld", "umbra", "penumbra", "missing", "saturated"];
+    for entry in entries.into_iter().chain(["beyond the scale"]) {
+        let lines = picture.lines(&format!(">{entry} ("));
+        assert_eq!(lines.len(), 1, "{entry}");
+        let text = lines[0].split_once('>').unwrap().1.split_once('<').unwrap().0;
+        // Eight units a character are about what the widest font here takes.
+        let right = number(lines[0], "x") + 8.0 * text.chars().count() as f64;
+        assert!(right <= 1_200.0, "{}", lines[0]);
+        // Above the revolutions' numbers, which stand at 115.
+        assert!(number(lines[0], "y") < 100.0, "{}", lines[0]);
+    }
 }
 
 /// Two days without records: nothing is drawn there, on either side of it something is.
@@ -146,9 +223,9 @@ fn a_gap() {
     let two_days = 2 * 86_400;
     let times =
         (0..60).map(|record| 90 * record).chain((0..60).map(|record| two_days + 90 * record));
-    let labels: Vec<_> = times.map(|time| label(time, true, 1, -7.0)).collect();
+    let labels: Vec<_> = times.map(|time| label(time, DARK, 1, -7.0)).collect();
     let picture = Picture::of(&label_file(&labels), &[]);
-    for (name, stretches) in [("shadows", picture.shadows()), ("strips", picture.strips())] {
+    for (name, stretches) in [("umbra", picture.bands_of(UMBRA)), ("strips", picture.strips())] {
         assert_eq!(stretches.len(), 2, "{name}");
         let (left, right) = (stretches[0], stretches[1]);
         assert!(left.0 + left.1 < 130.0 && right.0 > 1_120.0, "{name}: {stretches:?}");
@@ -161,7 +238,7 @@ fn a_gap() {
 fn infinite_and_missing_readings() {
     let readings = [0, 2, 0, 2, 1].into_iter().cycle().take(50).enumerate();
     let labels: Vec<_> =
-        readings.map(|(at, reading)| label(90 * at as i64, false, reading, 3.0)).collect();
+        readings.map(|(at, reading)| label(90 * at as i64, LIT, reading, 3.0)).collect();
     let picture = Picture::of(&label_file(&labels), &[]);
     picture.says(">missing (20)<");
     picture.says(">saturated (20)<");
@@ -170,7 +247,7 @@ fn infinite_and_missing_readings() {
     assert_eq!(picture.lines("l8 8m0 -8l-8 8").len(), 21);
     assert_eq!(picture.lines("l5 9h-10z").len(), 21);
     // None valid at all.
-    let labels: Vec<_> = (0..5).map(|at| label(at, false, 0, 0.0)).collect();
+    let labels: Vec<_> = (0..5).map(|at| label(at, LIT, 0, 0.0)).collect();
     assert_eq!(Picture::of(&label_file(&labels), &[]).dots("6"), 0);
 }
 

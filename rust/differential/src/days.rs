@@ -6,11 +6,13 @@ use crate::random::Random;
 use crate::report::{Hex, Report};
 
 pub fn label(random: &mut Random, report: &mut Report) {
-    let (elements, telemetry) = if random.one_in(8) {
-        inputs::facing_sun(random)
-    } else {
-        let elements = inputs::elements(random);
-        (elements, inputs::telemetry(random, &elements))
+    let (elements, telemetry) = match random.below(8) {
+        0 => inputs::facing_sun(random),
+        1 | 2 => inputs::eclipse(random),
+        _ => {
+            let elements = inputs::elements(random);
+            (elements, inputs::telemetry(random, &elements))
+        }
     };
     let room = inputs::room(random, telemetry.len());
     let before = random.bytes(room);

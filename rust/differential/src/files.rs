@@ -39,7 +39,7 @@ fn damage_label(random: &mut Random, file: &mut [u8], labels: usize) {
             file[at + 12] = Side::of_revolution(revolution) as u8;
         }
         3 => file[at + 12] = random.below(4) as u8,
-        4 => file[at + 13] = random.below(4) as u8,
+        4 => file[at + 13] = random.pick(&[0, 1, 2, 3, 4, 255]),
         5 => {
             file[at + 14] = random.below(4) as u8;
             if random.one_in(2) {
@@ -53,6 +53,15 @@ fn damage_label(random: &mut Random, file: &mut [u8], labels: usize) {
             put(file, at + 16, &sine.to_le_bytes());
         }
         _ => put(file, at + 20, &bits),
+    }
+}
+
+/// Changes the shade of every label, to 0 to 2, which reading accepts, or to 0 to 3.
+fn change_shades(random: &mut Random, file: &mut [u8], labels: usize) {
+    let shades = random.pick(&[3, 4]);
+    let at = file.len() - 16 - 24 * labels;
+    for label in file[at..].chunks_exact_mut(24).take(labels) {
+        label[13] = random.below(shades) as u8;
     }
 }
 
@@ -110,7 +119,7 @@ fn overflow_counts(random: &mut Random, file: &mut [u8]) {
 
 fn damaged_file(random: &mut Random) -> Vec<u8> {
     let (mut file, labels) = sound_file(random);
-    match random.below(18) {
+    match random.below(20) {
         0 => {}
         1 => {
             let bit = random.index(file.len() * 8);
@@ -130,6 +139,7 @@ fn damaged_file(random: &mut Random) -> Vec<u8> {
             file = random.bytes(length);
         }
         9 if labels > 0 => file = repeated(random, &file, labels),
+        10 | 11 if labels > 0 => change_shades(random, &mut file, labels),
         _ if labels > 0 => {
             damage_label(random, &mut file, labels);
             while random.one_in(3) {

@@ -1,5 +1,6 @@
 //! Random and edge inputs.
 
+use reference::eclipse::{shade, Shade};
 use reference::kepler::{mean_anomaly_of, ECCENTRICITY_MAX};
 use reference::orbit::Elements;
 use reference::sine::sine;
@@ -332,6 +333,45 @@ pub fn facing_sun(random: &mut Random) -> (Elements, Vec<u8>) {
     for _ in 0..8 {
         let time = elements.epoch + random.between(-60, 60);
         record(random, time, &mut telemetry);
+    }
+    (elements, telemetry)
+}
+
+/// The satellite's shade at a time that goes with its elements.
+fn shade_at(elements: &Elements, time: i64) -> Shade {
+    let position = elements.state(time).expect("accepted").position;
+    let sun = reference::sun::sun(time).expect("accepted").direction;
+    shade(position, sun).expect("a satellite within the range of 14")
+}
+
+/// A day with a record in the last second of a shade and in the first of the next, for each change of
+/// shade in about a revolution.
+pub fn eclipse(random: &mut Random) -> (Elements, Vec<u8>) {
+    const STEPS: i64 = 64;
+
+    let elements = accepted_elements(random);
+    let (_, high) = times(&elements);
+    let mut time = near_time(random, &elements);
+    let period = 8_640_000_000_000 / i64::from(elements.mean_motion);
+    let mut telemetry = Vec::new();
+    for _ in 0..STEPS {
+        let end = (time + period / STEPS).min(high);
+        while shade_at(&elements, time) != shade_at(&elements, end) {
+            let shade = shade_at(&elements, time);
+            let mut next = end;
+            while next - time > 1 {
+                let middle = (time + next).div_euclid(2);
+                if shade_at(&elements, middle) == shade {
+                    time = middle;
+                } else {
+                    next = middle;
+                }
+            }
+            record(random, time, &mut telemetry);
+            record(random, next, &mut telemetry);
+            time = next;
+        }
+        time = end;
     }
     (elements, telemetry)
 }

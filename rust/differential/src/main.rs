@@ -14,6 +14,7 @@ mod inputs;
 mod numbers;
 mod random;
 mod report;
+mod shades;
 
 use std::process::ExitCode;
 use std::time::Instant;
@@ -56,7 +57,7 @@ fn main() -> ExitCode {
         ("kepler", count, numbers::kepler),
         ("position", count, numbers::position),
         ("sun", count, numbers::sun),
-        ("shade", count, numbers::shade),
+        ("shade", count, shades::shade),
         ("label", count / 100, days::label),
         ("read", count / 100, files::read),
         ("buffers", count / 100, buffers::lent),

@@ -1,7 +1,6 @@
-//! Comparisons of sine, Kepler's equation, position, the revolution, Sun, shade and the square root.
+//! Comparisons of sine, Kepler's equation, position, the revolution, Sun and the square root.
 
-use reference::orbit::{Elements, Position};
-use reference::sun::Direction;
+use reference::orbit::Elements;
 
 use crate::inputs;
 use crate::random::Random;
@@ -119,85 +118,6 @@ pub fn sun(random: &mut Random, report: &mut Report) {
         })
         .map_err(|refusal| (refusal.number(), 0));
     report.outcomes(&time, library, reference);
-}
-
-/// A component next to the edges of `bound`, or anything.
-fn component(random: &mut Random, bound: i64) -> i64 {
-    match random.below(8) {
-        0 => random.pick(&[-bound - 1, -bound, bound, bound + 1]),
-        1 => random.pick(&[i64::MIN, i64::MAX, 0]),
-        2 => random.u64() as i64 >> random.below(64),
-        _ => random.between(-bound, bound),
-    }
-}
-
-/// The Sun at some time.
-fn some_sun(random: &mut Random) -> Direction {
-    let time = random.between(inputs::TIME_MIN, inputs::TIME_MAX);
-    reference::sun::sun(time).expect("a time in range").direction
-}
-
-/// A position behind the Earth, within metres of the shadow's edge.
-fn at_the_edge(random: &mut Random, sun: Direction) -> Position {
-    let depth = random.between(-1_000_000, 100_000_000) as f64;
-    let side = 6_378_000.0 + random.between(-5, 5) as f64;
-    let unit = [sun.x, sun.y, sun.z].map(|component| component as f64 / f64::from(1 << 30));
-    // A direction across the Sun's: their cross product with a random one, at length 1.
-    let other = [0; 3].map(|_| random.between(-1_000, 1_000) as f64 + 0.5);
-    let across = [
-        unit[1] * other[2] - unit[2] * other[1],
-        unit[2] * other[0] - unit[0] * other[2],
-        unit[0] * other[1] - unit[1] * other[0],
-    ];
-    let length = across.iter().map(|v| v * v).sum::<f64>().sqrt();
-    let [x, y, z] = [0, 1, 2].map(|i| (across[i] / length * side - unit[i] * depth) as i64);
-    Position { x, y, z }
-}
-
-/// The Sun along an axis, and a position at or next to the Earth's radius from its line.
-fn along_an_axis(random: &mut Random) -> (Position, Direction) {
-    // 3 and 4 fifths of the radius are whole metres, too.
-    let across = random.pick(&[[6_378_000, 0], [3_826_800, 5_102_400], [-5_102_400, 3_826_800]]);
-    let depth = random.between(-100_000_000, 100_000_000);
-    let one = random.pick(&[-1 << 30, 1 << 30]);
-    let mut position = [depth, across[0], across[1]];
-    let mut sun = [one, 0, 0];
-    position[random.index(3)] += random.between(-1, 1);
-    let axis = random.index(3);
-    position.rotate_right(axis);
-    sun.rotate_right(axis);
-    let [x, y, z] = position;
-    let [sun_x, sun_y, sun_z] = sun;
-    (Position { x, y, z }, Direction { x: sun_x, y: sun_y, z: sun_z })
-}
-
-pub fn shade(random: &mut Random, report: &mut Report) {
-    let (position, sun) = match random.below(5) {
-        0 => {
-            let [x, y, z] = [0; 3].map(|_| component(random, 200_000_000));
-            let [sx, sy, sz] = [0; 3].map(|_| component(random, 1 << 30));
-            (Position { x, y, z }, Direction { x: sx, y: sy, z: sz })
-        }
-        1 => {
-            let [x, y, z] = [0; 3].map(|_| random.between(-45_000_000, 45_000_000));
-            (Position { x, y, z }, some_sun(random))
-        }
-        2 => along_an_axis(random),
-        _ => {
-            let sun = some_sun(random);
-            (at_the_edge(random, sun), sun)
-        }
-    };
-    let library = yurdelmiz::shade(
-        yurdelmiz::Position { x: position.x, y: position.y, z: position.z },
-        yurdelmiz::Direction { x: sun.x, y: sun.y, z: sun.z },
-    )
-    .map(|shade| shade == yurdelmiz::Shade::Dark)
-    .map_err(|refusal| (refusal.number(), 0));
-    let reference = reference::eclipse::shade(position, sun)
-        .map(|shade| shade == reference::eclipse::Shade::Dark)
-        .map_err(|refusal| (refusal.number(), 0));
-    report.outcomes(&(position, sun), library, reference);
 }
 
 pub fn root(random: &mut Random, report: &mut Report) {

@@ -95,8 +95,10 @@ fn rows_marked_p() {
 
     let sun = Direction { x: 1 << 30, y: 0, z: 0 };
     let shade_at = |x, y| shade(Position { x, y, z: 0 }, sun);
-    assert_eq!(shade_at(-42_164_000, 6_377_999), Ok(Shade::Dark));
-    assert_eq!(shade_at(-42_164_000, 6_378_000), Ok(Shade::Lit));
+    assert_eq!(shade_at(-42_164_000, 6_183_633), Ok(Shade::Dark));
+    assert_eq!(shade_at(-42_164_000, 6_183_634), Ok(Shade::Part));
+    assert_eq!(shade_at(-42_164_000, 6_575_960), Ok(Shade::Part));
+    assert_eq!(shade_at(-42_164_000, 6_575_961), Ok(Shade::Lit));
     assert_eq!(shade_at(42_164_000, 0), Ok(Shade::Lit));
 
     let sides = [16, 17, 65].map(Side::of_revolution);

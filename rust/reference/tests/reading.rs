@@ -1,5 +1,6 @@
 //! Reading beyond what the vectors hold: lengths, round trip, listing.
 
+use reference::eclipse::Shade;
 use reference::file::{label_day, read};
 use reference::listing::listing;
 use reference::orbit::Elements;
@@ -30,6 +31,29 @@ const ELEMENTS: Elements = Elements {
 fn listing_of_the_example() {
     assert_eq!(listing(&EXAMPLE), "labels 1 training 1 test 0\n86400 17 1 1 1 -1 41200000\n");
     assert_eq!(listing(&EXAMPLE[..15]), "refused 12 at 0\n");
+}
+
+/// 0 lit, 1 dark, 2 part; every other byte is refused.
+#[test]
+fn shades_of_a_label() {
+    let known = [Shade::Lit, Shade::Dark, Shade::Part];
+    for byte in 0..=255 {
+        let mut file = EXAMPLE;
+        file[13] = byte;
+        match known.get(usize::from(byte)) {
+            Some(shade) => {
+                let label = read(&file, 40).unwrap().labels().next().unwrap();
+                assert_eq!(label.shade, *shade);
+                assert_eq!(label.to_bytes(), file[..24]);
+                let line = format!("86400 17 1 {byte} 1 -1 41200000\n");
+                assert_eq!(listing(&file), format!("labels 1 training 1 test 0\n{line}"));
+            }
+            None => {
+                let refused = Refused { refusal: Refusal::Labels, place: 0 };
+                assert_eq!(read(&file, 40).unwrap_err(), refused);
+            }
+        }
+    }
 }
 
 #[test]

@@ -1,10 +1,10 @@
-//! Runs the lines of vectors/K08.txt against a labeller.
+//! Runs the lines of vectors/K11.txt against a labeller.
 
 use std::fmt::Display;
 use std::str::{FromStr, SplitWhitespace};
 
 /// The vectors; the head of the file says what a line holds.
-const VECTORS: &str = include_str!("../../../vectors/K08.txt");
+const VECTORS: &str = include_str!("../../../vectors/K11.txt");
 
 /// What the output holds before labelling.
 const FILL: u8 = 0xaa;

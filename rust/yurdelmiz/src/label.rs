@@ -60,7 +60,7 @@ pub struct Label {
     pub revolution: i32,
     /// The side of the revolution.
     pub side: Side,
-    /// Shadow or sunlight.
+    /// Sunlight, umbra or penumbra.
     pub shade: Shade,
     /// The reading, with its watts where it is valid.
     pub reading: Reading,
@@ -112,7 +112,7 @@ mod tests {
     fn no_unknown_byte_is_a_side_or_a_shade() {
         for byte in 0..=255 {
             assert_eq!(Side::try_from(byte).is_ok(), byte < 3);
-            assert_eq!(Shade::try_from(byte).is_ok(), byte < 2);
+            assert_eq!(Shade::try_from(byte).is_ok(), byte < 3);
             if let Ok(side) = Side::try_from(byte) {
                 assert_eq!(side.to_byte(), byte);
             }
@@ -121,5 +121,6 @@ mod tests {
             }
         }
         assert_eq!(Side::try_from(3).unwrap_err().to_string(), "side 3 is not known");
+        assert_eq!(Shade::try_from(3).unwrap_err().to_string(), "shade 3 is not known");
     }
 }

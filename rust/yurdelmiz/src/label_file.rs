@@ -118,6 +118,17 @@ mod tests {
         }
     }
 
+    #[test]
+    fn shades_of_a_label() {
+        for (byte, shade) in [(0, Shade::Lit), (1, Shade::Dark), (2, Shade::Part)] {
+            let mut bytes = FILE;
+            bytes[13] = byte;
+            let label = LabelFile::read(&bytes).unwrap().labels().next().unwrap();
+            assert_eq!(label, Label { shade, ..LABEL });
+            assert_eq!(label.to_bytes(), bytes[..24]);
+        }
+    }
+
     /// Every byte that a field does not know, and the watts of a reading that has none.
     #[test]
     fn no_unknown_byte_is_read() {
@@ -125,7 +136,7 @@ mod tests {
             for byte in 0..=255 {
                 let mut bytes = FILE;
                 bytes[at] = byte;
-                let expected = byte == FILE[at] || (at == 13 && byte < 2);
+                let expected = byte == FILE[at] || (at == 13 && byte < 3);
                 match LabelFile::read(&bytes) {
                     Ok(_) => assert!(expected, "byte {at} is {byte}"),
                     Err(refused) => {

@@ -1,6 +1,7 @@
-//! Refusals: their numbers and texts, those of the elements in their order, and the limits of 16 and 8.
+//! Refusals: their numbers and texts, those of the elements in their order, the limits of 16 and 8, and the
+//! shades that 13 knows.
 
-use yurdelmiz::{position, Elements, Refusal, Refused};
+use yurdelmiz::{label_to_vec, position, read, Counts, Elements, Refusal, Refused, Sample};
 
 /// Oscar-10, from source document 001.
 const OSCAR_10: Elements = Elements {
@@ -110,5 +111,24 @@ fn times_within_reach() {
             assert_eq!(outcome(&elements, way * reach), Ok(()));
             assert_eq!(outcome(&elements, way * (reach + 1)), Err(Refusal::Time));
         }
+    }
+}
+
+/// 13 knows the shades 0 to 2.
+#[test]
+fn shades_of_a_file() {
+    let sample = Sample { time: OSCAR_10.epoch, volts: 14.0, amperes: 0.5 };
+    let mut file = label_to_vec(&OSCAR_10, &sample.to_bytes()).unwrap();
+    assert_eq!(file[13], 1, "the worked example is dark");
+    let counts = Counts { labels: 1, training: 1, test: 0 };
+    for shade in 0..=2 {
+        file[13] = shade;
+        assert_eq!(read(&file, file.len()), Ok(counts), "shade {shade}");
+    }
+    for shade in 3..=255 {
+        file[13] = shade;
+        let refused = read(&file, file.len()).unwrap_err();
+        assert_eq!(refused, Refused { refusal: Refusal::Labels, place: 0 }, "shade {shade}");
+        assert!(refused.to_string().starts_with("refused 13 at 0: "));
     }
 }

@@ -64,7 +64,7 @@ impl Labeller for Library {
     fn shade(&self, [x, y, z]: [i64; 3], sun: [i64; 3]) -> Result<[i64; 1], u32> {
         let sun = Direction { x: sun[0], y: sun[1], z: sun[2] };
         yurdelmiz::shade(Position { x, y, z }, sun)
-            .map(|shade| [i64::from(shade == yurdelmiz::Shade::Dark)])
+            .map(|shade| [shade.to_byte().into()])
             .map_err(Refusal::number)
     }
 

@@ -17,24 +17,15 @@ y-is c = rw (toZ-ofZ (c .before .before .before .fits .y)) at (c .magnitude2 .en
 z-is : (c : tie.After-magnitude3) → c .magnitude3 .result ≡ natAbs (c .before .before .before .before .before .args .z)
 z-is c = rw (toZ-ofZ (c .before .before .before .before .before .fits .z)) at (c .magnitude3 .ensures)
 
-magnitude-requires : tie.Need-magnitude-requires
-magnitude-requires c κs = search needs
-
 returns : tie.Need-returns
 unfolding anyBeyond
 returns c = rw (← (x-is (c .before)), lt-ltb _ _ (c .if1 .taken))
-
-magnitude-requires-2 : tie.Need-magnitude-requires-2
-magnitude-requires-2 c κs = search needs
 
 returns-2 : tie.Need-returns-2
 unfolding anyBeyond
 returns-2 c =
     let i = c .before .before in
     rw (← (x-is (i .before)), le-ltb _ _ (i .if1 .left), ← (y-is (c .before)), lt-ltb _ _ (c .if2 .taken))
-
-magnitude-requires-3 : tie.Need-magnitude-requires-3
-magnitude-requires-3 c κs = search needs
 
 returns-3 : tie.Need-returns-3
 unfolding anyBeyond
@@ -47,9 +38,9 @@ pub any-beyond-spec : {M : Type 1} → statement M
 any-beyond-spec =
     tie.close
     (tie.spec
-    magnitude-requires
+    (λ c κs. search needs)
     returns
-    magnitude-requires-2
+    (λ c κs. search needs)
     returns-2
-    magnitude-requires-3
+    (λ c κs. search needs)
     returns-3)

@@ -7,15 +7,6 @@ use Rattle.eclipse.proofs.SolarElevation.{elevation-at}
 use Rattle.eclipse.proofs.elevation.Statement.{statement}
 use Rattle.eclipse.proofs.elevation.Tie as tie
 
-normal-requires : tie.Need-normal-requires
-normal-requires c κs = search needs
-
-dot-requires : tie.Need-dot-requires
-dot-requires c κs = search needs
-
-held-requires : tie.Need-held-requires
-held-requires c κs = search needs
-
 cast-result : tie.Need-cast-result
 cast-result c = rw (read-within (c .held .ensures .small) tt) (sfits-within (c .held .ensures .small) tt)
 
@@ -29,4 +20,4 @@ returns c =
     rw (toZ-ofZ (cast-result c), read-within (held-at .small) tt) (elevation-at (n .ensures) dot-is held-at)
 
 pub elevation-spec : {M : Type 1} → statement M
-elevation-spec = tie.close (tie.spec normal-requires dot-requires held-requires cast-result returns)
+elevation-spec = tie.close (tie.spec (λ c κs. search needs) (λ c κs. search needs) (λ c κs. search needs) cast-result returns)

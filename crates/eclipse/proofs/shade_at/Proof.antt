@@ -1,19 +1,13 @@
 -- `eclipse::shade_at` meets its contract. Assumes nothing.
-use mathlib.Core.Path.{_≡_}
-use Prim.Native.Nat.{_^_}
-use mathlib.Core.Bool.{Bool, cond}
+use mathlib.Core.Path.{_≡_, _∙_}
 use lib.Dec.{lit≤}
-use lib.IntN.{pos}
-use lib.Signed.{ltZ}
-use mir.Syntax.{w64}
-use mir.Val.{toZ, ofZ}
-use Rattle.integer.specs.Bound.{Within}
-use Rattle.integer.proofs.Bounds.{within-more}
+use lib.IntN.{pos, negℤ, _-ℤ_, +ℤ-idl}
+use Rattle.integer.proofs.Bounds.{within-more, within-neg, sfits-within}
 use Rattle.integer.proofs.TwosComplement.{read-back, read-within}
-use Rattle.eclipse.specs.Shade.{projection, shadeOf}
+use Rattle.eclipse.specs.Shade.{projection}
+use Rattle.eclipse.specs.Contract.{DepthBound}
 use Rattle.eclipse.proofs.Bounds.{projection-within}
-use Rattle.eclipse.specs.declared.Shade.the-variants.{Lit, Dark}
-use Rattle.eclipse.proofs.Cases.{lit-before, behind}
+use Rattle.eclipse.proofs.Cases.{lit-before, shaded-behind}
 use Rattle.eclipse.proofs.shade_at.Statement.{statement}
 use Rattle.eclipse.proofs.shade_at.Tie as tie
 
@@ -22,7 +16,7 @@ p-is c =
     let b = c .before .before .before .before .pre .0 in
     rw (read-within (b .x-within) tt, read-within (b .y-within) tt, read-within (b .z-within) tt) at (c .dot .ensures)
 
-p-within : (c : tie.After-dot) → Within (2 ^ 31) (c .dot .result)
+p-within : (c : tie.After-dot) → DepthBound (c .dot .result)
 p-within c = let pre = c .before .before .before .before .pre in rw (p-is c) (projection-within (pre .0) (pre .1))
 
 dot-requires : tie.Need-dot-requires
@@ -35,29 +29,42 @@ dot-requires c κs =
       pre .1,
     )
 
+depth-within : (c : tie.After-dot) → DepthBound (pos 0 -ℤ c .dot .result)
+depth-within c = rw (+ℤ-idl (negℤ (c .dot .result))) (within-neg (p-within c))
+
+sub-shade-behind : tie.Need-sub-shade-behind
+sub-shade-behind c = let d = c .before in rw (read-within (p-within d) tt) (sfits-within (depth-within d) tt)
+
 side-squared-requires : tie.Need-side-squared-requires
 side-squared-requires c κs =
     let w = p-within (c .before) in
     (c .before .before .before .before .before .pre .0, rw (read-within w tt) w)
 
-behind-is : (c : tie.After-side-squared) {dark : Bool} → ltZ (toZ w64 (ofZ w64 (c .side-squared .result))) (pos (6_378_000 ^ 2)) ≡ dark
-    → let a = c .before .before .before .before .before .before .args in cond dark Dark Lit ≡ shadeOf (a .position) (a .sun)
-behind-is c u =
+shade-behind-requires : tie.Need-shade-behind-requires
+shade-behind-requires c κs =
     let d = c .before .before in
-    let s = c .side-squared in
-    let r = read-within (p-within d) tt in
-    behind _ _ _ (p-is d) (rw r at (c .before .if1 .taken)) (rw (read-back (s .result) (s .ok), s .ensures, r) at u)
+    rw (read-within (p-within d) tt, read-within (depth-within d) tt) (depth-within d)
 
 returns : tie.Need-returns
-returns c = behind-is (c .before) (c .if2 .taken)
+returns c =
+    let s = c .before .side-squared in
+    let d = c .before .before .before in
+    let r = read-within (p-within d) tt in
+    rw (r, read-within (depth-within d) tt, +ℤ-idl (negℤ (d .dot .result)), read-back (s .result) (s .ok), s .ensures, r) at (c .shade-behind .ensures)
+    ∙ shaded-behind _ _ _ (p-is d) (rw r at (c .before .before .if1 .taken))
 
 returns-2 : tie.Need-returns-2
-returns-2 c = behind-is (c .before) (c .if2 .left)
-
-returns-3 : tie.Need-returns-3
-returns-3 c =
+returns-2 c =
     let d = c .before in
     lit-before _ _ _ (p-is d) (rw (read-within (p-within d) tt) at (c .if1 .left))
 
 pub shade-at-spec : {M : Type 1} → statement M
-shade-at-spec = tie.close (tie.spec dot-requires side-squared-requires returns returns-2 returns-3)
+shade-at-spec =
+    tie.close
+    (tie.spec
+    dot-requires
+    sub-shade-behind
+    side-squared-requires
+    shade-behind-requires
+    returns
+    returns-2)

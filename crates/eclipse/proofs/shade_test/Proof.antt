@@ -26,14 +26,8 @@ sun-is : (c : tie.After-any-beyond2) → let d = c .before .before .before .befo
     c .any-beyond2 .result ≡ anyBeyond (2 ^ 30) (d .x) (d .y) (d .z)
 sun-is c = beyond-is _ _ _ _ (search needs) (search needs) (search needs) (c .any-beyond2 .ensures)
 
-any-beyond-requires : tie.Need-any-beyond-requires
-any-beyond-requires c κs = search needs
-
 returns : tie.Need-returns
 returns c = position-refused _ _ (sym (position-is (c .before)) ∙ c .if1 .taken)
-
-any-beyond-requires-2 : tie.Need-any-beyond-requires-2
-any-beyond-requires-2 c κs = search needs
 
 returns-2 : tie.Need-returns-2
 returns-2 c =
@@ -58,9 +52,9 @@ pub shade-test-spec : {M : Type 1} → statement M
 shade-test-spec =
     tie.close
     (tie.spec
-    any-beyond-requires
+    (λ c κs. search needs)
     returns
-    any-beyond-requires-2
+    (λ c κs. search needs)
     returns-2
     shade-at-requires
     returns-3)

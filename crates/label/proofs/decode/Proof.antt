@@ -9,15 +9,6 @@ returns : tie.Need-returns
 unfolding decoded
 returns c = rw (ne-eqb _ _ (c .if1 .taken))
 
-fields-at-requires : tie.Need-fields-at-requires
-fields-at-requires c κs = search needs
-
-keeps-rules-requires : tie.Need-keeps-rules-requires
-keeps-rules-requires c κs = search needs
-
-label-of-requires : tie.Need-label-of-requires
-label-of-requires c κs = search needs
-
 returns-2 : tie.Need-returns-2
 unfolding decoded judged
 returns-2 c =
@@ -37,8 +28,8 @@ decode-spec =
     tie.close
     (tie.spec
     returns
-    fields-at-requires
-    keeps-rules-requires
-    label-of-requires
+    (λ c κs. search needs)
+    (λ c κs. search needs)
+    (λ c κs. search needs)
     returns-2
     returns-3)

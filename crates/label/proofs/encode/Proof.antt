@@ -9,33 +9,6 @@ use borrow.Author.Needs.{needs}
 use Rattle.label.proofs.encode.Statement.{statement}
 use Rattle.label.proofs.encode.Tie as tie
 
-code-requires : tie.Need-code-requires
-code-requires c κs = search needs
-
-watts-bits-requires : tie.Need-watts-bits-requires
-watts-bits-requires c κs = search needs
-
-write-i64-requires : tie.Need-write-i64-requires
-write-i64-requires c κs = search needs
-
-add-write-i32 : tie.Need-add-write-i32
-add-write-i32 c = search needs
-
-write-i32-requires : tie.Need-write-i32-requires
-write-i32-requires c κs = search needs
-
-add-write-four : tie.Need-add-write-four
-add-write-four c = search needs
-
-write-four-requires : tie.Need-write-four-requires
-write-four-requires c κs = search needs
-
-add-write-i32-2 : tie.Need-add-write-i32-2
-add-write-i32-2 c = search needs
-
-write-i32-requires-2 : tie.Need-write-i32-requires-2
-write-i32-requires-2 c κs = search needs
-
 add-write-u32 : tie.Need-add-write-u32
 add-write-u32 c =
     let e = c .before .before .before in
@@ -44,12 +17,6 @@ add-write-u32 c =
     let t = r .before .before .before .before .before in
     let s = t .before .before .before .before .before .before in
     omega (arith, s .pre, s .good)
-
-write-u32-requires : tie.Need-write-u32-requires
-write-u32-requires c κs = search needs
-
-same-length : tie.Need-same-length
-same-length c = search needs
 
 -- the signed fields fit, which the struct's type tells
 time-fits : (s : tie.Start) → SFits w64 (s .args .label .time)
@@ -79,16 +46,16 @@ pub encode-spec : {M : Type 1} → statement M
 encode-spec =
     tie.close
     (tie.spec
-    code-requires
-    watts-bits-requires
-    write-i64-requires
-    add-write-i32
-    write-i32-requires
-    add-write-four
-    write-four-requires
-    add-write-i32-2
-    write-i32-requires-2
+    (λ c κs. search needs)
+    (λ c κs. search needs)
+    (λ c κs. search needs)
+    (λ c. search needs)
+    (λ c κs. search needs)
+    (λ c. search needs)
+    (λ c κs. search needs)
+    (λ c. search needs)
+    (λ c κs. search needs)
     add-write-u32
-    write-u32-requires
-    same-length
+    (λ c κs. search needs)
+    (λ c. search needs)
     returns)

@@ -5,14 +5,8 @@ use Rattle.label.specs.Layout.{labelOf}
 use Rattle.label.proofs.of_part.Statement.{statement}
 use Rattle.label.proofs.of_part.Tie as tie
 
-fields-at-requires : tie.Need-fields-at-requires
-fields-at-requires c κs = search needs
-
-label-of-requires : tie.Need-label-of-requires
-label-of-requires c κs = search needs
-
 returns : tie.Need-returns
 returns c = c .label-of .ensures ∙ ap labelOf (c .before .fields-at .ensures)
 
 pub of-part-spec : {M : Type 1} → statement M
-of-part-spec = tie.close (tie.spec fields-at-requires label-of-requires returns)
+of-part-spec = tie.close (tie.spec (λ c κs. search needs) (λ c κs. search needs) returns)

@@ -8,9 +8,6 @@ use Rattle.label.proofs.Shifted.{SameBlocks, same-blocks}
 use Rattle.label.proofs.side.Statement.{statement}
 use Rattle.label.proofs.side.Tie as tie
 
-moved-up-requires : tie.Need-moved-up-requires
-moved-up-requires c κs = search needs
-
 blocks : (c : tie.After-moved-up) → SameBlocks (c .before .args .revolution) (c .moved-up .result)
 blocks c =
     same-blocks (c .before .args .revolution) (c .moved-up .result)
@@ -33,4 +30,4 @@ returns-3 c =
     rw (ne-eqb _ _ (λ q. c .before .if1 .left (b .sixteenth ∙ q)), ne-eqb _ _ (λ q. c .if2 .left (b .fifth ∙ q)))
 
 pub side-spec : {M : Type 1} → statement M
-side-spec = tie.close (tie.spec moved-up-requires returns returns-2 returns-3)
+side-spec = tie.close (tie.spec (λ c κs. search needs) returns returns-2 returns-3)

@@ -1,4 +1,4 @@
-//! The picture: watts above, the Sun's elevation below, shadow behind both, revolutions on top.
+//! The picture: watts above, the Sun's elevation below, umbra and penumbra behind both, revolutions on top.
 
 use yurdelmiz::{Label, Reading};
 
@@ -157,35 +157,39 @@ impl<'a> Day<'a> {
 
     fn draw_legend(&self, drawing: &mut Drawing) {
         let count = |is: &dyn Fn(&Label) -> bool| self.labels.iter().filter(|it| is(it)).count();
-        let (mut x, y) = (LEFT, 74.0);
-        // A mark from x on, then its text; the next entry begins behind it.
+        let (mut x, mut y) = (LEFT, 74.0);
+        // A mark at what is given back, then its text; the next entry begins behind it, or in a second row.
         let mut entry = |drawing: &mut Drawing, mark: f64, text: String| {
-            let start = x;
+            let width = mark + Font::PLAIN.width(&text);
+            if x + width > RIGHT {
+                (x, y) = (LEFT, 94.0);
+            }
+            let start = (x, y);
             drawing.text(x + mark, y, &text, Font::PLAIN);
-            x += mark + 22.0 + Font::PLAIN.width(&text);
+            x += width + 22.0;
             start
         };
         for side in SIDES {
             let text = format!("{side} ({})", count(&|label| label.side == side));
-            let start = entry(drawing, 17.0, text);
-            drawing.dots(&[(start + 6.0, y - 4.0)], colour(side), 5.0);
+            let (x, y) = entry(drawing, 17.0, text);
+            drawing.dots(&[(x + 6.0, y - 4.0)], colour(side), 5.0);
         }
         for band in BANDS {
             let text = format!("{} ({})", band.name, count(&|label| label.shade == band.shade));
-            let start = entry(drawing, 29.0, text);
-            drawing.rect(start, y - 12.0, 22.0, 15.0, band.fill);
+            let (x, y) = entry(drawing, 29.0, text);
+            drawing.rect(x, y - 12.0, 22.0, 15.0, band.fill);
         }
         let missing = count(&|label| label.reading == Reading::Missing);
-        let start = entry(drawing, 17.0, format!("missing ({missing})"));
-        drawing.cross(start + 6.0, y - 4.0, MISSING);
+        let (x, y) = entry(drawing, 17.0, format!("missing ({missing})"));
+        drawing.cross(x + 6.0, y - 4.0, MISSING);
         let saturated = count(&|label| label.reading == Reading::Saturated);
-        let start = entry(drawing, 17.0, format!("saturated ({saturated})"));
-        drawing.triangle(start + 6.0, y - 4.0, SATURATED);
+        let (x, y) = entry(drawing, 17.0, format!("saturated ({saturated})"));
+        drawing.triangle(x + 6.0, y - 4.0, SATURATED);
         let beyond: Vec<f64> = self.beyond().into_iter().map(|(_, watts)| watts).collect();
         if let Some(range) = watts_range(&beyond) {
-            let start =
-                entry(drawing, 17.0, format!("beyond the scale ({}): {range}", beyond.len()));
-            drawing.arrow(start + 6.0, y - 10.0, true, INK);
+            let text = format!("beyond the scale ({}): {range}", beyond.len());
+            let (x, y) = entry(drawing, 17.0, text);
+            drawing.arrow(x + 6.0, y - 10.0, true, INK);
         }
     }
 
@@ -330,5 +334,16 @@ mod tests {
             let bands = BANDS.iter().filter(|band| band.shade == shade).count();
             assert_eq!(bands, usize::from(shade != Shade::Lit));
         }
+    }
+
+    /// The umbra is darker than the penumbra, and that than the panel.
+    #[test]
+    fn fills_are_told_apart() {
+        let names = BANDS.map(|band| band.name);
+        assert_eq!(names, ["umbra", "penumbra"]);
+        let fills = BANDS.map(|band| band.fill).into_iter().chain(["#ffffff"]);
+        let greens: Vec<u8> =
+            fills.map(|fill| u8::from_str_radix(&fill[3..5], 16).unwrap()).collect();
+        assert!(greens.windows(2).all(|pair| pair[0] + 15 < pair[1]), "{greens:?}");
     }
 }

@@ -43,5 +43,8 @@ pub struct Band {
     pub fill: &'static str,
 }
 
-/// Every shade but sunlight.
-pub const BANDS: [Band; 1] = [Band { shade: Shade::Dark, name: "shadow", fill: "#dfe3ea" }];
+/// Every shade but sunlight, the darkest first.
+pub const BANDS: [Band; 2] = [
+    Band { shade: Shade::Dark, name: "umbra", fill: "#c3ccda" },
+    Band { shade: Shade::Part, name: "penumbra", fill: "#e0e6ee" },
+];

@@ -63,22 +63,13 @@ shade-kept c = sym (c .before .shade-allowed .ensures) ∙ not-false _ (c .if3 .
 
 -- ---- the needs
 
-in-range-requires : tie.Need-in-range-requires
-in-range-requires c κs = search needs
-
 returns : tie.Need-returns
 returns c = time-broken _ (sym (time-told (c .before)) ∙ not-true _ (c .if1 .taken))
-
-side-requires : tie.Need-side-requires
-side-requires c κs = search needs
 
 returns-2 : tie.Need-returns-2
 returns-2 c =
     let s = c .before .before in
     side-broken _ (time-kept (s .before .before)) (λ q. c .if2 .taken (q ∙ sym (side-told s)))
-
-shade-allowed-requires : tie.Need-shade-allowed-requires
-shade-allowed-requires c κs = search needs
 
 returns-3 : tie.Need-returns-3
 returns-3 c =
@@ -99,9 +90,6 @@ returns-5 c =
     let e2 = after2 e3 in
     padding-broken _ (time-kept (after1 e2)) (side-kept e2) (shade-kept e3) (e4 .if4 .left) (c .if5 .taken)
 
-elevation-allowed-requires : tie.Need-elevation-allowed-requires
-elevation-allowed-requires c κs = search needs
-
 returns-6 : tie.Need-returns-6
 returns-6 c =
     let e5 = c .before .before .before in
@@ -110,9 +98,6 @@ returns-6 c =
     let e2 = after2 e3 in
     elevation-broken _ (time-kept (after1 e2)) (side-kept e2) (shade-kept e3) (e4 .if4 .left) (e5 .if5 .left)
     (sym (elevation-told (c .before)) ∙ not-true _ (c .if6 .taken))
-
-watts-allowed-requires : tie.Need-watts-allowed-requires
-watts-allowed-requires c κs = search needs
 
 returns-7 : tie.Need-returns-7
 returns-7 c =
@@ -129,15 +114,15 @@ pub keeps-rules-spec : {M : Type 1} → statement M
 keeps-rules-spec =
     tie.close
     (tie.spec
-    in-range-requires
+    (λ c κs. search needs)
     returns
-    side-requires
+    (λ c κs. search needs)
     returns-2
-    shade-allowed-requires
+    (λ c κs. search needs)
     returns-3
     returns-4
     returns-5
-    elevation-allowed-requires
+    (λ c κs. search needs)
     returns-6
-    watts-allowed-requires
+    (λ c κs. search needs)
     returns-7)

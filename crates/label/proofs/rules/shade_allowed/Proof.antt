@@ -6,7 +6,7 @@ use Rattle.label.proofs.rules.shade_allowed.Tie as tie
 
 returns : tie.Need-returns
 unfolding shadeAllowed
-returns c = search needs
+returns c = rw (c .code .ensures)
 
 pub shade-allowed-spec : {M : Type 1} → statement M
-shade-allowed-spec = tie.close (tie.spec returns)
+shade-allowed-spec = tie.close (tie.spec (λ c κs. search needs) returns)

@@ -5,9 +5,6 @@ use borrow.Author.Needs.{needs}
 use Rattle.label.proofs.rules.watts_allowed.Statement.{statement}
 use Rattle.label.proofs.rules.watts_allowed.Tie as tie
 
-finite-bits-requires : tie.Need-finite-bits-requires
-finite-bits-requires c κs = search needs
-
 returns : tie.Need-returns
 unfolding wattsAllowed
 returns c = rw (eq-eqb _ _ (c .before .if1 .taken)) (c .finite-bits .ensures)
@@ -17,4 +14,4 @@ unfolding wattsAllowed
 returns-2 c = rw (ne-eqb _ _ (c .if1 .left))
 
 pub watts-allowed-spec : {M : Type 1} → statement M
-watts-allowed-spec = tie.close (tie.spec finite-bits-requires returns returns-2)
+watts-allowed-spec = tie.close (tie.spec (λ c κs. search needs) returns returns-2)
