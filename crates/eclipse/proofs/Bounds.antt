@@ -65,11 +65,11 @@ spread-sizes (g, h) =
     record { product = p; whole = within-more (within-quot 149_600_000_000 p) (lit≤ tt) }
 
 -- a shadow's radius from its spread
-pub umbra-within : {s : ℤ} → Within (2 ^ 24) s → RadiusBound (pos 6_378_000 -ℤ s)
-umbra-within h = within-more (within-sub (within-pos {a = 6_378_000} (lit≤ tt)) h) (lit≤ tt)
+pub umbra-within : (s : ℤ) → Within (2 ^ 24) s → RadiusBound (pos 6_378_000 -ℤ s)
+umbra-within s h = within-more (within-sub (within-pos {a = 6_378_000} (lit≤ tt)) h) (lit≤ tt)
 
-pub penumbra-within : {s : ℤ} → Within (2 ^ 24) s → RadiusBound (pos 6_378_000 +ℤ s)
-penumbra-within h = within-more (within-add (within-pos {a = 6_378_000} (lit≤ tt)) h) (lit≤ tt)
+pub penumbra-within : (s : ℤ) → Within (2 ^ 24) s → RadiusBound (pos 6_378_000 +ℤ s)
+penumbra-within s h = within-more (within-add (within-pos {a = 6_378_000} (lit≤ tt)) h) (lit≤ tt)
 
 pub projection-within : {q : Position} {sun : Direction} → CelestialBox q → WithinOne sun → DepthBound (projection q sun)
 unfolding dotOf

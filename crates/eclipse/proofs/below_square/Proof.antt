@@ -5,12 +5,9 @@ use Rattle.eclipse.specs.Shade.{belowSquare}
 use Rattle.eclipse.proofs.below_square.Statement.{statement}
 use Rattle.eclipse.proofs.below_square.Tie as tie
 
-mul-result : tie.Need-mul-result
-mul-result c = let b = within-mul (c .pre) (c .pre) in search (needs, sfits-within)
-
 returns : tie.Need-returns
 unfolding belowSquare
 returns c = let b = within-mul (c .pre) (c .pre) in search (needs, sfits-within)
 
 pub below-square-spec : {M : Type 1} → statement M
-below-square-spec = tie.close (tie.spec mul-result returns)
+below-square-spec = tie.close (tie.spec (λ c. let b = within-mul (c .pre) (c .pre) in search (needs, sfits-within)) returns)

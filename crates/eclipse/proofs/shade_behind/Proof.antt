@@ -1,54 +1,55 @@
 -- `eclipse::shade_behind` meets its contract. Assumes nothing.
 use borrow.Author.Needs.{needs}
-use mathlib.Core.Path.{_≡_, ap, _∙_}
-use lib.IntN.{ℤ}
+use mathlib.Core.Path.{_≡_}
+use mathlib.Core.Bool.{Bool}
+use Prim.Native.Nat.{_^_}
+use lib.IntN.{ℤ, pos, _+ℤ_, _-ℤ_}
 use mir.Syntax.{w64}
 use mir.Val.{SFits, toZ, ofZ}
 use mir.Facts.{toZ-ofZ}
+use Rattle.integer.specs.Bound.{Within}
 use Rattle.integer.proofs.Bounds.{sfits-within}
 use Rattle.integer.proofs.TwosComplement.{read-within}
 use Rattle.eclipse.specs.Shade.{spread, umbraRadius, penumbraRadius, belowSquare, shadeBehind}
-use Rattle.eclipse.specs.Contract.{SpreadAt}
+use Rattle.eclipse.specs.Contract.{RadiusBound, SpreadAt}
 use Rattle.eclipse.proofs.Bounds.{umbra-within, penumbra-within}
 use Rattle.eclipse.proofs.shade_behind.Statement.{statement}
 use Rattle.eclipse.proofs.shade_behind.Tie as tie
 
--- a spread of the depth as it is read back
-spread-is : {d k r : ℤ} → SFits w64 d → SpreadAt (toZ w64 (ofZ w64 d)) k r → r ≡ spread d k
-spread-is {k = k} f s = s .is ∙ ap (λ x. spread x k) (toZ-ofZ f)
+-- a radius from its spread, with the numbers as they are read back
+module _ (radius : ℤ → ℤ) (within : (s : ℤ) → Within (2 ^ 24) s → RadiusBound (radius s)) where
+  fits : {s : ℤ} → Within (2 ^ 24) s → SFits w64 (radius (toZ w64 (ofZ w64 s)))
+  fits h = rw (read-within h tt) (sfits-within (within _ h) tt)
 
-sub-umbra : tie.Need-sub-umbra
-sub-umbra c = let s = c .spread .ensures .small in rw (read-within s tt) (sfits-within (umbra-within s) tt)
+  bound : {s : ℤ} → Within (2 ^ 24) s → RadiusBound (toZ w64 (ofZ w64 (radius (toZ w64 (ofZ w64 s)))))
+  bound h = rw (read-within h tt, read-within (within _ h) tt) (within _ h)
 
-below-square-requires : tie.Need-below-square-requires
-below-square-requires c κs = let s = c .spread .ensures .small in rw (read-within s tt, read-within (umbra-within s) tt) (umbra-within s)
+  told : {b : Bool} {d k s side : ℤ} → SFits w64 d → SFits w64 side → SpreadAt (toZ w64 (ofZ w64 d)) k s
+      → b ≡ belowSquare (toZ w64 (ofZ w64 side)) (toZ w64 (ofZ w64 (radius (toZ w64 (ofZ w64 s))))) → b ≡ belowSquare side (radius (spread d k))
+  told f g h e = rw (toZ-ofZ g, read-within (h .small) tt, read-within (within _ (h .small)) tt, h .is, toZ-ofZ f) at e
+
+abbrev umbra : ℤ → ℤ
+umbra s = pos 6_378_000 -ℤ s
+
+abbrev penumbra : ℤ → ℤ
+penumbra s = pos 6_378_000 +ℤ s
 
 dark-is : (c : tie.After-below-square) → let a = c .before .before .args in c .below-square .result ≡ belowSquare (a .squared-side) (umbraRadius (a .depth))
 unfolding umbraRadius
 dark-is c =
-    let d = c .before in
-    let f = d .before .fits in
-    let w = d .spread .ensures .small in
-    rw (toZ-ofZ (f .squared-side), read-within w tt, read-within (umbra-within w) tt, spread-is (f .depth) (d .spread .ensures)) at (c .below-square .ensures)
-
-returns : tie.Need-returns
-unfolding shadeBehind
-returns c = rw (← (dark-is (c .before)), c .if1 .taken)
-
-add-penumbra : tie.Need-add-penumbra
-add-penumbra c = let s = c .spread2 .ensures .small in rw (read-within s tt) (sfits-within (penumbra-within s) tt)
-
-below-square-requires-2 : tie.Need-below-square-requires-2
-below-square-requires-2 c κs = let s = c .spread2 .ensures .small in rw (read-within s tt, read-within (penumbra-within s) tt) (penumbra-within s)
+    let f = c .before .before .fits in
+    told umbra umbra-within (f .depth) (f .squared-side) (c .before .spread .ensures) (c .below-square .ensures)
 
 part-is : (c : tie.After-below-square2) → let a = c .before .before .before .before .before .args in
     c .below-square2 .result ≡ belowSquare (a .squared-side) (penumbraRadius (a .depth))
 unfolding penumbraRadius
 part-is c =
-    let d = c .before in
-    let f = d .before .before .before .before .fits in
-    let w = d .spread2 .ensures .small in
-    rw (toZ-ofZ (f .squared-side), read-within w tt, read-within (penumbra-within w) tt, spread-is (f .depth) (d .spread2 .ensures)) at (c .below-square2 .ensures)
+    let f = c .before .before .before .before .before .fits in
+    told penumbra penumbra-within (f .depth) (f .squared-side) (c .before .spread2 .ensures) (c .below-square2 .ensures)
+
+returns : tie.Need-returns
+unfolding shadeBehind
+returns c = rw (← (dark-is (c .before)), c .if1 .taken)
 
 returns-2 : tie.Need-returns-2
 unfolding shadeBehind
@@ -67,11 +68,11 @@ shade-behind-spec =
     tie.close
     (tie.spec
     (λ c κs. search needs)
-    sub-umbra
-    below-square-requires
+    (λ c. fits umbra umbra-within (c .spread .ensures .small))
+    (λ c κs. bound umbra umbra-within (c .spread .ensures .small))
     returns
     (λ c κs. search needs)
-    add-penumbra
-    below-square-requires-2
+    (λ c. fits penumbra penumbra-within (c .spread2 .ensures .small))
+    (λ c κs. bound penumbra penumbra-within (c .spread2 .ensures .small))
     returns-2
     returns-3)

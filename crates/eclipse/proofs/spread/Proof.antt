@@ -9,9 +9,6 @@ use Rattle.eclipse.proofs.Bounds.{spread-sizes}
 use Rattle.eclipse.proofs.spread.Statement.{statement}
 use Rattle.eclipse.proofs.spread.Tie as tie
 
-mul-result : tie.Need-mul-result
-mul-result c = let b = spread-sizes (c .pre) in search (needs, sfits-within)
-
 div-result : tie.Need-div-result
 div-result c =
     let p = spread-sizes (c .pre) .product in
@@ -22,4 +19,4 @@ unfolding spread
 returns c = let b = spread-sizes (c .pre) in search (needs, sfits-within)
 
 pub spread-spec : {M : Type 1} → statement M
-spread-spec = tie.close (tie.spec mul-result div-result returns)
+spread-spec = tie.close (tie.spec (λ c. let b = spread-sizes (c .pre) in search (needs, sfits-within)) div-result returns)
