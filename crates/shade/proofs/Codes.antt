@@ -10,7 +10,7 @@ use Rattle.shade.specs.declared.Shade.the-variants.{Lit, Dark, Part}
 
 -- the shade of a code
 abbrev pub shadeWith : ℕ → Shade
-shadeWith n = cond (eqb n 0) Lit (cond (eqb n 1) Dark Part)
+shadeWith n = cond (eqb n (shadeCode Lit)) Lit (cond (eqb n (shadeCode Dark)) Dark Part)
 
 shade-back : (s : Shade) → shadeWith (shadeCode s) ≡ s
 shade-back Lit = refl
