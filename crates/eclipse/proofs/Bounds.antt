@@ -4,10 +4,10 @@ use mathlib.Core.Path.{_≡_}
 use mathlib.Core.Bool.{false}
 use Prim.Native.Nat.{ℕ, _*_, _^_}
 use lib.Dec.{ltb, lit≤}
-use lib.IntN.{ℤ, pos, natAbs, _+ℤ_, _-ℤ_, _*ℤ_}
+use lib.IntN.{ℤ, pos, negℤ, natAbs, _+ℤ_, _-ℤ_, _*ℤ_}
 use lib.Signed.{quotZ}
 use Rattle.integer.specs.Bound.{Within}
-use Rattle.integer.proofs.Bounds.{within-add, within-sub, within-mul, within-quot, within-pos, within-more}
+use Rattle.integer.proofs.Bounds.{within-neg, within-add, within-sub, within-mul, within-quot, within-pos, within-more}
 use Rattle.integer.proofs.Tests.{or-false}
 use Rattle.position.specs.Box.{CelestialBox}
 use Rattle.position.specs.declared.Position.{Position}
@@ -65,11 +65,11 @@ spread-sizes (g, h) =
     record { product = p; whole = within-more (within-quot 149_600_000_000 p) (lit≤ tt) }
 
 -- a shadow's radius from its spread
-pub umbra-within : (s : ℤ) → Within (2 ^ 24) s → RadiusBound (pos 6_378_000 -ℤ s)
-umbra-within s h = within-more (within-sub (within-pos {a = 6_378_000} (lit≤ tt)) h) (lit≤ tt)
-
 pub penumbra-within : (s : ℤ) → Within (2 ^ 24) s → RadiusBound (pos 6_378_000 +ℤ s)
 penumbra-within s h = within-more (within-add (within-pos {a = 6_378_000} (lit≤ tt)) h) (lit≤ tt)
+
+pub umbra-within : (s : ℤ) → Within (2 ^ 24) s → RadiusBound (pos 6_378_000 -ℤ s)
+umbra-within s h = penumbra-within (negℤ s) (within-neg h)
 
 pub projection-within : {q : Position} {sun : Direction} → CelestialBox q → WithinOne sun → DepthBound (projection q sun)
 unfolding dotOf

@@ -13,4 +13,11 @@ returns c = let b = dot-sizes (c .before .before .before .before .before .before
 pub dot-spec : {M : Type 1} → statement M
 dot-spec =
     tie.close
-    (tie.spec (λ c. let b = dot-sizes (c .before .before .pre) in search (needs, sfits-within)) (λ c. let b = dot-sizes (c .before .before .before .before .pre) in search (needs, sfits-within)) (λ c. let b = dot-sizes (c .before .before .before .before .pre) in search (needs, sfits-within)) (λ c. let b = dot-sizes (c .before .before .before .before .before .before .pre) in search (needs, sfits-within)) (λ c. let b = dot-sizes (c .before .before .before .before .before .before .pre) in search (needs, sfits-within)) (λ c. let b = dot-sizes (c .before .before .before .before .before .before .pre) in search (needs, sfits-within)) returns)
+    (tie.spec
+    (λ c. let b = dot-sizes (c .before .before .pre) in search (needs, sfits-within))
+    (λ c. let b = dot-sizes (c .before .before .before .before .pre) in search (needs, sfits-within))
+    (λ c. let b = dot-sizes (c .before .before .before .before .pre) in search (needs, sfits-within))
+    (λ c. let b = dot-sizes (c .before .before .before .before .before .before .pre) in search (needs, sfits-within))
+    (λ c. let b = dot-sizes (c .before .before .before .before .before .before .pre) in search (needs, sfits-within))
+    (λ c. let b = dot-sizes (c .before .before .before .before .before .before .pre) in search (needs, sfits-within))
+    returns)
