@@ -46,9 +46,9 @@ enum {
      * 2,592,000 s where the derivative of the mean motion is not 0. */
     YURDELMIZ_TIME = 8,
     /* 9 is not used, and not to be used again. */
-    /* Telemetry length no multiple of 16, or over 1,024 records. */
+    /* Telemetry length no multiple of 16, or over 1,024 records with the labels of the file. */
     YURDELMIZ_TELEMETRY_LENGTH = 10,
-    /* Output shorter than 24 bytes a record plus 16. */
+    /* From the first label on, output or buffer shorter than 24 bytes a label plus 24. */
     YURDELMIZ_OUTPUT_LENGTH = 11,
     /* Label file: fewer than 16 bytes, a length beyond the buffer, or a trailer that does not fit. */
     YURDELMIZ_TRAILER = 12,
@@ -92,13 +92,15 @@ enum {
     YURDELMIZ_SUN_BYTES = 28,
     YURDELMIZ_POSITION_BYTES = 68,
     YURDELMIZ_SHADE_BYTES = 1,
-    YURDELMIZ_READ_BYTES = 12
+    YURDELMIZ_ADD_BYTES = 28,
+    YURDELMIZ_READ_BYTES = 24
 };
 
-/* The parts of a result of 64 bits: the status; from yurdelmiz_label and yurdelmiz_read the place of
- * a refusal, which is the number of the record or label from 0, and 0 where none applies; from
- * yurdelmiz_elements the line of a fault, from 1, and the number from 0 of the element that was due
- * there, in the order of the file, 12 behind the last. */
+/* The parts of a result of 64 bits: the status; from yurdelmiz_label, yurdelmiz_add and yurdelmiz_read
+ * the place of a refusal, which is the number of the record or label from 0, in yurdelmiz_add that of
+ * the record's label in the whole file, and 0 where none applies; from yurdelmiz_elements the line of a
+ * fault, from 1, and the number from 0 of the element that was due there, in the order of the file, 12
+ * behind the last. */
 #define YURDELMIZ_STATUS(result) ((uint32_t)((result) & 0xffffffffu))
 #define YURDELMIZ_PLACE(result) ((uint32_t)((result) >> 32))
 #define YURDELMIZ_LINE(result) ((uint32_t)((result) >> 32) & 0xffffffu)
@@ -191,7 +193,7 @@ uint32_t yurdelmiz_shade(int64_t x, int64_t y, int64_t z,
 uint64_t yurdelmiz_elements(const uint8_t *text, size_t text_len,
                             uint8_t *answer, size_t answer_len);
 
-/* Labels a day's telemetry: 24 bytes a record from the start of `output`, then the trailer's 16.
+/* Labels a day's telemetry: 24 bytes a record from the start of `output`, then the trailer's 24.
  * What lies behind the trailer is unchanged. Refusals 1 to 7, then 16, for the elements, 8 for the
  * epoch, 10, 11, all at place 0; then 8 for each record in order, at its place. `elements` as above.
  *
@@ -209,25 +211,54 @@ uint64_t yurdelmiz_elements(const uint8_t *text, size_t text_len,
  *    15  u8   0
  *    16  i32  sine of the Sun's elevation above the orbit plane
  *    20  f32  watts, 0 where the reading is not valid
- *   and the trailer, 16 bytes:
+ *   and the trailer, 24 bytes:
  *     0  u32  labels
  *     4  u32  training labels
  *     8  u32  test labels
- *    12  u32  distance from the end of the file back to the first label
+ *    12  u32  dark labels, those of shade 1 alone
+ *    16  u32  dark test labels
+ *    20  u32  distance from the end of the file back to the first label, 24 * labels + 24
  */
 uint64_t yurdelmiz_label(const uint8_t *elements, size_t elements_len,
                          const uint8_t *telemetry, size_t telemetry_len,
                          uint8_t *output, size_t output_len);
 
-/* Reads the label file in the first `size` bytes of `file`. Bytes ahead of the first label belong
- * to others; the first label is at size - 24 * labels - 16. Refusal 12 at place 0, also where
- * `size` is beyond `file_len`; 13 at the first label that breaks a field rule, or at the number
- * of labels where the trailer's counts are not those of the labels.
+/* Adds telemetry to the label file in the first `size` bytes of `buffer`: the labels of its records
+ * go over the file's trailer, be it one of 24 bytes or of 16, and the trailer of 24 bytes behind
+ * them. What lies ahead of the first label and behind the trailer is unchanged. With the elements
+ * that the file was labelled with, the bytes from the first label on are those of labelling all the
+ * telemetry at once; adding no record gives a file its trailer of 24 bytes. Refusals 1 to 7, then 16,
+ * for the elements, 8 for the epoch, at place 0; 12 and 13 of the file, as from yurdelmiz_read; 10 and
+ * 11 on the labels of the file and the records together, at place 0; then 8 for each record in order,
+ * at the place of its label in the whole file. `elements` and `telemetry` as above.
  *
- *   answer, 12 bytes:
+ *   answer, 28 bytes:
+ *     0  u64  the file's bytes in `buffer`, as `size` before
+ *     8  u32  labels, of the whole file
+ *    12  u32  training labels
+ *    16  u32  test labels
+ *    20  u32  dark labels
+ *    24  u32  dark test labels
+ */
+uint64_t yurdelmiz_add(const uint8_t *elements, size_t elements_len,
+                       uint8_t *buffer, size_t buffer_len, size_t size,
+                       const uint8_t *telemetry, size_t telemetry_len,
+                       uint8_t *answer, size_t answer_len);
+
+/* Reads the label file in the first `size` bytes of `file`, with a trailer of 24 bytes, or of 16,
+ * which has no dark counts: labels, training labels, test labels, and the distance, 24 * labels + 16.
+ * The distance, in the last 4 bytes, tells which it is. Bytes ahead of the first label belong to
+ * others; the first label is at `size` less the distance. Refusal 12 at place 0, also where `size` is
+ * beyond `file_len`; 13 at the first label that breaks a field rule, or at the number of labels where
+ * the trailer's counts are not those of the labels.
+ *
+ *   answer, 24 bytes; the counts are those over the labels, whichever trailer the file has:
  *     0  u32  labels
  *     4  u32  training labels
  *     8  u32  test labels
+ *    12  u32  dark labels
+ *    16  u32  dark test labels
+ *    20  u32  the trailer's bytes, 16 or 24
  */
 uint64_t yurdelmiz_read(const uint8_t *file, size_t file_len, size_t size,
                         uint8_t *answer, size_t answer_len);

@@ -29,7 +29,7 @@ sets4 l at a b c d =
     let e3 : at + 3 ≡ suc (suc (suc at)) = omega arith in
     rw (e1, e2, e3)
 
-length-bytes4 : (v : ℕ) → length (bytes4 v) ≡ 4
+pub length-bytes4 : (v : ℕ) → length (bytes4 v) ≡ 4
 unfolding bytes4
 length-bytes4 v = refl
 

@@ -78,7 +78,7 @@ pub fn write_u32(out: &mut [u8], at: usize, v: u32)
     );
 }
 
-fn write_u64(out: &mut [u8], at: usize, v: u64)
+pub fn write_u64(out: &mut [u8], at: usize, v: u64)
     requires { ⌜ at + 8 ≤ length (now out) ⌝ }
     ensures { λ _. ⌜ now (out .exit) ≡ sets (now (out .entry)) at (bytes8 v) ⌝ }
 {

@@ -5,7 +5,7 @@ ghost use lib.IntN.{pos, _+ℤ_};
 ghost use lib.ListN.{length};
 ghost use lib.Seq.{sets};
 ghost use Rattle.label.specs.Sides.{sideOf};
-ghost use Rattle.label.specs.Layout.{labelBytes, fieldsAt, labelOf};
+ghost use Rattle.label.specs.Layout.{labelSize, labelBytes, fieldsAt, labelOf};
 ghost use Rattle.label.specs.Codec.{decoded};
 use telemetry::Reading;
 
@@ -50,7 +50,7 @@ pub fn side(revolution: i32) -> u8
 // Writes a label's 24 bytes from `at` on. Whoever writes a file has tested the room for its labels by
 // then, which is what the `requires` asks.
 pub fn encode(label: Label, out: &mut [u8], at: usize)
-    requires { ⌜ at + 24 ≤ length (now out) ⌝ }
+    requires { ⌜ at + labelSize ≤ length (now out) ⌝ }
     ensures { λ _. ⌜ now (out .exit) ≡ sets (now (out .entry)) at (labelBytes label) ⌝ }
 {
     let reading = label.reading;
@@ -82,7 +82,7 @@ pub fn decode(part: &[u8]) -> Decoded
 // them. Whoever takes one out of a file has tested the file's size by then, which is what the `requires`
 // asks.
 pub fn of_part(part: &[u8]) -> Label
-    requires { ⌜ 24 ≤ length (now part) ⌝ }
+    requires { ⌜ labelSize ≤ length (now part) ⌝ }
     ensures { λ r. ⌜ r ≡ labelOf (fieldsAt (now (part .entry))) ⌝ }
 {
     fields::label_of(fields::fields_at(part))

@@ -6,3 +6,6 @@ pub mod Writing
 pub mod RoundTrip
 pub mod Accepted
 pub mod Ahead
+pub mod ReaderOf16
+pub mod Appending
+pub mod FileLabels

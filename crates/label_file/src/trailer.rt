@@ -3,64 +3,119 @@ ghost use mathlib.Core.Path.{_≡_};
 ghost use Prim.Native.Nat.{_+_, _≤_};
 ghost use lib.ListN.{length};
 ghost use lib.Seq.{sets};
-ghost use Rattle.label_file.specs.Trailer.{trailerSize, distanceBack, trailerBytes, trailerAllowed, trailerOf};
+ghost use Rattle.label_file.specs.declared.Form.the-variants.{Bytes24};
+ghost use Rattle.label_file.specs.Trailer.{trailerSize, distanceBack, formOf, statedCounts, trailerBytes, countsAllowed, trailerAllowed};
 use crate::Counts;
+use crate::Form;
 use crate::MOST_LABELS;
-use crate::TrailerReading;
 
-pub const SIZE: usize = 16;
+const SIZE_16: usize = 16;
 
-// The distance from the end of a file back to its first label: the bytes of its labels and its trailer.
-pub fn distance_back(labels: u32) -> usize
-    ensures { λ r. ⌜ r ≡ distanceBack labels ⌝ }
-{
-    label::SIZE * (labels as usize) + SIZE
+const SIZE_24: usize = 24;
+
+// No file has fewer bytes.
+pub(crate) const SHORTEST: usize = SIZE_16;
+
+pub(crate) const LONGEST: usize = SIZE_24;
+
+impl Form {
+    pub fn size(self) -> usize
+        ensures { λ r. ⌜ r ≡ trailerSize self ⌝ }
+    {
+        match self {
+            Form::Bytes16 => SIZE_16,
+            Form::Bytes24 => SIZE_24,
+        }
+    }
 }
 
-fn allowed(stated: Counts, distance: u32, size: usize) -> bool
-    ensures { λ r. ⌜ r ≡ trailerAllowed stated distance size ⌝ }
+// The form that a distance tells.
+pub(crate) fn form_of(distance: u32) -> Form
+    ensures { λ r. ⌜ r ≡ formOf distance ⌝ }
+{
+    if distance as usize % label::SIZE == 0 {
+        Form::Bytes24
+    } else {
+        Form::Bytes16
+    }
+}
+
+// The distance from the end of a file back to its first label: the bytes of its labels and its trailer.
+pub fn distance_back(form: Form, labels: u32) -> usize
+    ensures { λ r. ⌜ r ≡ distanceBack form labels ⌝ }
+{
+    label::SIZE * (labels as usize) + form.size()
+}
+
+fn counts_allowed(stated: Counts) -> bool
+    ensures { λ r. ⌜ r ≡ countsAllowed stated ⌝ }
+{
+    if stated.labels < stated.training {
+        return false;
+    }
+    if stated.labels - stated.training < stated.test {
+        return false;
+    }
+    if stated.labels < stated.dark {
+        return false;
+    }
+    if stated.test < stated.dark_test {
+        return false;
+    }
+    stated.dark_test <= stated.dark
+}
+
+pub(crate) fn allowed(form: Form, stated: Counts, distance: u32, size: usize) -> bool
+    ensures { λ r. ⌜ r ≡ trailerAllowed form stated distance size ⌝ }
 {
     if MOST_LABELS < stated.labels {
         return false;
     }
-    if distance as usize != distance_back(stated.labels) {
+    if distance as usize != distance_back(form, stated.labels) {
         return false;
     }
     if size < distance as usize {
         return false;
     }
-    if stated.labels < stated.training {
-        return false;
-    }
-    stated.test <= stated.labels - stated.training
+    counts_allowed(stated)
 }
 
-// The trailer of the last 16 bytes of a file, which its reader has found there.
-pub(crate) fn read_trailer(bytes: &[u8], size: usize) -> TrailerReading
-    requires { ⌜ trailerSize ≤ length (now bytes) ⌝ }
-    ensures { λ r. ⌜ r ≡ trailerOf (now (bytes .entry)) size ⌝ }
+// The counts in the bytes of a trailer, which its reader has found at the end of a file.
+pub(crate) fn read_counts(form: Form, bytes: &[u8]) -> Counts
+    requires { ⌜ trailerSize form ≤ length (now bytes) ⌝ }
+    ensures { λ r. ⌜ r ≡ statedCounts form (now (bytes .entry)) ⌝ }
 {
-    let stated = Counts {
-        labels: endian::read_u32(bytes, 0),
-        training: endian::read_u32(bytes, 4),
-        test: endian::read_u32(bytes, 8),
-    };
-    let distance = endian::read_u32(bytes, 12);
-    if allowed(stated, distance, size) {
-        TrailerReading::Allowed(stated)
-    } else {
-        TrailerReading::Refused
+    let labels = endian::read_u32(bytes, 0);
+    let training = endian::read_u32(bytes, 4);
+    let test = endian::read_u32(bytes, 8);
+    match form {
+        Form::Bytes16 => Counts {
+            labels,
+            training,
+            test,
+            dark: 0,
+            dark_test: 0,
+        },
+        Form::Bytes24 => Counts {
+            labels,
+            training,
+            test,
+            dark: endian::read_u32(bytes, 12),
+            dark_test: endian::read_u32(bytes, 16),
+        },
     }
 }
 
 // Whoever writes a file has tested its room and the number of its labels by then.
 pub fn write_trailer(counts: Counts, out: &mut [u8], at: usize)
-    requires { ⌜ (at + trailerSize ≤ length (now out)) × (counts .labels ≤ 1_024) ⌝ }
-    ensures { λ _. ⌜ now (out .exit) ≡ sets (now (out .entry)) at (trailerBytes counts) ⌝ }
+    requires { ⌜ (at + trailerSize Bytes24 ≤ length (now out)) × (counts .labels ≤ 1_024) ⌝ }
+    ensures { λ _. ⌜ now (out .exit) ≡ sets (now (out .entry)) at (trailerBytes Bytes24 counts) ⌝ }
 {
-    let distance = distance_back(counts.labels) as u32;
+    let distance = distance_back(Form::Bytes24, counts.labels) as u32;
     endian::write_u32(out, at, counts.labels);
     endian::write_u32(out, at + 4, counts.training);
     endian::write_u32(out, at + 8, counts.test);
-    endian::write_u32(out, at + 12, distance);
+    endian::write_u32(out, at + 12, counts.dark);
+    endian::write_u32(out, at + 16, counts.dark_test);
+    endian::write_u32(out, at + 20, distance);
 }

@@ -1,7 +1,10 @@
 pub mod Passing
 pub mod LabelFields
-pub mod DayCases
-pub mod PassedDay
+pub mod RecordCases
+pub mod PassedRecords
 pub mod WrittenFile
+pub mod AddedFile
+pub mod Joining
+pub mod Continuing
 pub mod Order
 pub mod ConstantMotion

@@ -1,5 +1,8 @@
 pub mod Record
+pub mod Records
 pub mod Day
+pub mod Adding
+pub mod Continuing
 pub mod Order
 pub mod Contract
 pub mod ConstantMotion

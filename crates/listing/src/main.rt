@@ -10,6 +10,7 @@ ghost use Rattle.listing.specs.Contract.{EndsWithin, RoomMade};
 use label::Label;
 use label_file::Counts;
 use label_file::FileReading;
+use label_file::Form;
 use label_file::LONGEST;
 use libc::STDERR_FILENO;
 use libc::STDIN_FILENO;
@@ -128,13 +129,13 @@ fn print_failure() {
     print(b"failed\n");
 }
 
-fn print_labels(file: &[u8], counts: Counts)
-    requires { ⌜ fileReading (now file) ≡ Accepted counts ⌝ }
+fn print_labels(file: &[u8], form: Form, counts: Counts)
+    requires { ⌜ fileReading (now file) ≡ Accepted form counts ⌝ }
 {
     let labels = counts.labels;
     let mut number = 0;
     while number < labels {
-        print_label(label_file::label_at(file, counts, number));
+        print_label(label_file::label_at(file, form, counts, number));
         number += 1;
     }
 }
@@ -144,9 +145,9 @@ fn list(file: &[u8]) {
     let answer = label_file::read(file, size);
     match answer {
         FileReading::Refused(refusal, place) => print_refusal(refusal, place),
-        FileReading::Accepted(counts) => {
+        FileReading::Accepted(form, counts) => {
             print_counts(counts);
-            print_labels(file, counts);
+            print_labels(file, form, counts);
         }
     }
 }

@@ -1,11 +1,11 @@
 -- What a call that ended with status 0 gave, for its caller to cite; and what the result of a malformed elements file says. Assumes nothing.
 use mathlib.Core.Path.{_≡_, refl, sym, ap, subst, _∙_}
-use mathlib.Core.Bool.{Bool, true, false}
+use mathlib.Core.Bool.{Bool, true, false, _&&_}
 use mathlib.Core.List.{List}
 use Prim.Native.Nat.{ℕ, _/_, _%_, _^_, _≤_, _<_}
 use native.Mathlib.Omega.{arith}
 use borrow.Author.Tests.{eq-eqb, leb-true, leb-false}
-use lib.Dec.{lit≤, leb}
+use lib.Dec.{lit≤, leb, eqb}
 use lib.IntN.{ℤ}
 use lib.ListN.{length}
 use Rattle.refusal.proofs.Numbers.{never-0}
@@ -27,17 +27,20 @@ use Rattle.elements_file.specs.declared.Fault.the-variants.{Name, Extra, Contro
 use Rattle.elements_file.specs.declared.Parsed.{Parsed}
 use Rattle.elements_file.specs.declared.Parsed.the-variants as parsed
 use Rattle.elements_file.proofs.Consistency.{parsed-in-bounds}
-use Rattle.label_file.specs.Trailer.{distanceBack}
 use Rattle.label_file.specs.declared.Counts.{Counts}
-use Rattle.labelling.specs.Day.{labelling, records, outputAfter}
+use Rattle.label_file.specs.declared.Form.the-variants.{Bytes24}
+use Rattle.labelling.specs.Adding.{adding, bufferAfter}
+use Rattle.labelling.specs.Day.{labelling, outputAfter}
 use Rattle.labelling.specs.declared.Labelling.{Labelling}
 use Rattle.labelling.specs.declared.Labelling.the-variants as labelling
+use Rattle.labelling.proofs.AddedFile.{added-buffer-accepted}
 use Rattle.labelling.proofs.WrittenFile.{written-buffer-accepted}
-use Rattle.yurdelmiz.specs.Answers.{anomalyBytes, stateBytes, elementsBytes, countsBytes}
+use Rattle.yurdelmiz.specs.Answers.{anomalyBytes, stateBytes, elementsBytes, readBytes, addBytes}
 use Rattle.yurdelmiz.specs.Buffers.{elementsOf}
 use Rattle.yurdelmiz.specs.Faults.{faultNumber, faultPlace}
 use Rattle.yurdelmiz.specs.Call.{Call, Outcome, refused, given, callOf, statusAt}
-use Rattle.yurdelmiz.specs.Calls.{anomalyOutcome, keplerCall, earthFixedAt, stateOutcome, positionCall, elementsOutcome, elementsCall, dayOutcome, labelCall, labelOutcome, countsOutcome, readCall}
+use Rattle.yurdelmiz.specs.Calls.{anomalyOutcome, keplerCall, earthFixedAt, stateOutcome, positionCall, elementsOutcome, elementsCall, dayOutcome, labelCall, labelOutcome, AddCall, addCall, readOutcome, readCall}
+use Rattle.yurdelmiz.proofs.Additions.{by-answer, bad-lengths}
 use Rattle.yurdelmiz.proofs.Elements.{elements-back}
 use Rattle.yurdelmiz.proofs.Endings.{ends-refused, ends-given}
 
@@ -141,22 +144,67 @@ elements-malformed text buffer line element fault n e =
 -- a read call takes the labels and the trailer with the counts of the labels
 pub record LabelAnswer (elements telemetry output : List ℕ) : Type 0 where
   pub counts : Counts
-  pub labelled : labelling (elementsOf elements) telemetry (length output) ≡ labelling.Labelled counts
-  pub reads-back : (buffer : List ℕ) → length buffer ≡ 12
-      → readCall (labelCall elements telemetry output .answer) (distanceBack (records telemetry)) buffer ≡ record { status = 0; answer = countsBytes counts }
+  pub end : ℕ
+  pub labelled : labelling (elementsOf elements) telemetry (length output) ≡ labelling.Labelled counts end
+  pub reads-back : (buffer : List ℕ) → length buffer ≡ 24
+      → readCall (labelCall elements telemetry output .answer) end buffer ≡ record { status = 0; answer = readBytes Bytes24 counts }
 
 label-by : (elements telemetry output answer : List ℕ) (r : Labelling) → labelling (elementsOf elements) telemetry (length output) ≡ r
     → labelCall elements telemetry output .answer ≡ answer
     → Ending (labelOutcome r (outputAfter (elementsOf elements) telemetry output)) answer → LabelAnswer elements telemetry output
 unfolding readCall
 label-by elements telemetry output answer (labelling.Refused refusal place) e a g = absurd (omega (arith, never-0 refusal))
-label-by elements telemetry output answer (labelling.Labelled counts) e a g =
+label-by elements telemetry output answer (labelling.Labelled counts end) e a g =
     record {
       counts = counts;
+      end = end;
       labelled = e;
-      reads-back = λ buffer n. rw (a ∙ g) (sym (ends-given _ _ buffer refl (eq-eqb _ 12 n) (ap countsOutcome (written-buffer-accepted (elementsOf elements) telemetry output counts e))));
+      reads-back = λ buffer n. rw (a ∙ g) (sym (ends-given _ _ buffer refl (eq-eqb _ 24 n) (ap readOutcome (written-buffer-accepted (elementsOf elements) telemetry output counts end e))));
     }
 
 pub label-accepted : (elements telemetry output : List ℕ) → labelCall elements telemetry output .status ≡ 0 → LabelAnswer elements telemetry output
 unfolding labelCall dayOutcome
 label-accepted elements telemetry output s = label-by elements telemetry output _ (labelling (elementsOf elements) telemetry (length output)) refl refl (accepted _ _ output s)
+
+-- ---- yurdelmiz_add, and yurdelmiz_read of what it left
+
+-- the buffer and the answer are those of the definition, and a read call takes the file with the counts of all its labels
+pub record AddAnswer (elements buffer : List ℕ) (size : ℕ) (telemetry answer : List ℕ) : Type 0 where
+  pub counts : Counts
+  pub end : ℕ
+  pub added : adding (elementsOf elements) buffer size telemetry ≡ labelling.Labelled counts end
+  pub buffer-is : addCall elements buffer size telemetry answer .buffer ≡ bufferAfter (elementsOf elements) buffer size telemetry
+  pub answer-is : addCall elements buffer size telemetry answer .answer ≡ addBytes counts end
+  pub reads-back : (out : List ℕ) → length out ≡ 24
+      → readCall (addCall elements buffer size telemetry answer .buffer) end out ≡ record { status = 0; answer = readBytes Bytes24 counts }
+
+module _ (elements buffer : List ℕ) (size : ℕ) (telemetry answer : List ℕ) where
+  abbrev lengths : Bool
+  lengths = eqb (length elements) 52 && eqb (length answer) 28
+
+  abbrev el : Elements
+  el = elementsOf elements
+
+  add-by : lengths ≡ true → (r : Labelling) → adding el buffer size telemetry ≡ r → addCall elements buffer size telemetry answer .status ≡ 0 → AddAnswer elements buffer size telemetry answer
+  unfolding readCall
+  add-by n (labelling.Refused refusal place) e s =
+      let call = by-answer elements buffer size telemetry answer n (sym e) in
+      absurd (omega (arith, never-0 refusal, sym (ap (λ (c : AddCall). c .status) call) ∙ s))
+  add-by n (labelling.Labelled counts end) e s =
+      let call = by-answer elements buffer size telemetry answer n (sym e) in
+      let after = ap (λ (c : AddCall). c .buffer) call in
+      record {
+        counts = counts;
+        end = end;
+        added = e;
+        buffer-is = after;
+        answer-is = ap (λ (c : AddCall). c .answer) call;
+        reads-back = λ out k. rw after (sym (ends-given _ _ out refl (eq-eqb _ 24 k) (ap readOutcome (added-buffer-accepted el buffer size telemetry counts end e))));
+      }
+
+  by-lengths : (t : Bool) → lengths ≡ t → addCall elements buffer size telemetry answer .status ≡ 0 → AddAnswer elements buffer size telemetry answer
+  by-lengths true n s = add-by n (adding el buffer size telemetry) refl s
+  by-lengths false n s = absurd (omega (arith, ap (λ (c : AddCall). c .status) (bad-lengths elements buffer size telemetry answer n) ∙ s))
+
+  pub add-accepted : addCall elements buffer size telemetry answer .status ≡ 0 → AddAnswer elements buffer size telemetry answer
+  add-accepted s = by-lengths lengths refl s

@@ -6,10 +6,11 @@ use Rattle.refusal.specs.Numbers.{numberOf}
 use Rattle.refusal.specs.declared.Refusal.{Refusal}
 use Rattle.orbit.specs.declared.elements.Elements.{Elements}
 use Rattle.label_file.specs.File.{fileOf}
-use Rattle.label_file.specs.Trailer.{distanceBack}
 use Rattle.label_file.specs.declared.Counts.{Counts}
+use Rattle.label_file.specs.declared.Form.the-variants.{Bytes24}
 use Rattle.labelling.specs.Contract.{LabelledDay}
-use Rattle.labelling.specs.Day.{records, labelAt, outputAfter, outputBy}
+use Rattle.labelling.specs.Records.{records, labelAt, bufferBy}
+use Rattle.labelling.specs.Day.{outputAfter}
 use Rattle.labelling.specs.declared.Labelling.{Labelling}
 use Rattle.labelling.specs.declared.Labelling.the-variants.{Labelled, Refused}
 use Rattle.yurdelmiz.specs.Call.{refused, given, statusAt}
@@ -20,12 +21,12 @@ module _ {el : Elements} {telemetry output after : List ℕ} {r : Labelling} (da
   unfolding dayOutcome
   day-refused e = ap (λ (x : Labelling). labelOutcome x (outputAfter el telemetry output)) (sym (day .answer-is) ∙ e)
 
-  pub day-labelled : {counts : Counts} → r ≡ Labelled counts → dayOutcome el telemetry output ≡ given (outputAfter el telemetry output)
+  pub day-labelled : {counts : Counts} {size : ℕ} → r ≡ Labelled counts size → dayOutcome el telemetry output ≡ given (outputAfter el telemetry output)
   unfolding dayOutcome
   day-labelled e = ap (λ (x : Labelling). labelOutcome x (outputAfter el telemetry output)) (sym (day .answer-is) ∙ e)
 
   pub unchanged : {refusal : Refusal} {place : ℕ} → r ≡ Refused refusal place → after ≡ output
   unfolding outputAfter
   unchanged e =
-      let file = fileOf (labelAt el telemetry) (records telemetry) in
-      day .output-is ∙ ap (λ (x : Labelling). outputBy x file (distanceBack (records telemetry)) output) (sym (day .answer-is) ∙ e)
+      let file = fileOf Bytes24 (labelAt el telemetry) (records telemetry) in
+      day .output-is ∙ ap (λ (x : Labelling). bufferBy x 0 file output) (sym (day .answer-is) ∙ e)

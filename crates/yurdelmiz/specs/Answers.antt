@@ -6,7 +6,9 @@ use mir.Syntax.{w32, w64}
 use mir.Val.{ofZ}
 use Rattle.endian.specs.LittleEndian.{bytes4, bytes8}
 use Rattle.kepler.specs.declared.Anomaly.{Anomaly}
+use Rattle.label_file.specs.Trailer.{trailerSize}
 use Rattle.label_file.specs.declared.Counts.{Counts}
+use Rattle.label_file.specs.declared.Form.{Form}
 use Rattle.orbit.specs.declared.State.{State}
 use Rattle.orbit.specs.declared.elements.Elements.{Elements}
 use Rattle.position.specs.declared.Position.{Position}
@@ -65,6 +67,14 @@ elementsBytes el =
     ∷ ofZ w32 (el .«half_mean_motion_derivative»)
     ∷ [])
 
--- 12 bytes: labels, training labels, test labels
+-- 20 bytes: labels, training labels, test labels, dark labels, dark test labels
 unfoldable pub countsBytes : Counts → List ℕ
-countsBytes c = words (c .labels ∷ c .training ∷ c .test ∷ [])
+countsBytes c = words (c .labels ∷ c .training ∷ c .test ∷ c .dark ∷ c .«dark_test» ∷ [])
+
+-- 24 bytes: the counts, and the bytes of the file's trailer
+unfoldable pub readBytes : Form → Counts → List ℕ
+readBytes form c = countsBytes c ++ bytes4 (trailerSize form)
+
+-- 28 bytes: where the file ends, and the counts
+unfoldable pub addBytes : Counts → ℕ → List ℕ
+addBytes c size = bytes8 size ++ countsBytes c

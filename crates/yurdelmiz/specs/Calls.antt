@@ -1,6 +1,6 @@
 -- What each call of the C interface gives: include/yurdelmiz.h, in its order. Assumes nothing.
 use Prim.Native.Nat.{ℕ}
-use mathlib.Core.Bool.{_&&_}
+use mathlib.Core.Bool.{true, false, _&&_}
 use mathlib.Core.List.{List, [], _∷_}
 use lib.Dec.{eqb}
 use lib.IntN.{ℤ}
@@ -29,10 +29,11 @@ use Rattle.eclipse.specs.declared.ShadeAnswer.the-variants as shade
 use Rattle.label_file.specs.Reading.{bufferReading}
 use Rattle.label_file.specs.declared.FileReading.{FileReading}
 use Rattle.label_file.specs.declared.FileReading.the-variants as reading
+use Rattle.labelling.specs.Adding.{adding, bufferAfter}
 use Rattle.labelling.specs.Day.{labelling, outputAfter}
 use Rattle.labelling.specs.declared.Labelling.{Labelling}
 use Rattle.labelling.specs.declared.Labelling.the-variants as labelling
-use Rattle.yurdelmiz.specs.Answers.{anomalyBytes, sunBytes, stateBytes, elementsBytes, countsBytes}
+use Rattle.yurdelmiz.specs.Answers.{anomalyBytes, sunBytes, stateBytes, elementsBytes, readBytes, addBytes}
 use Rattle.yurdelmiz.specs.Buffers.{elementsOf}
 use Rattle.yurdelmiz.specs.Faults.{faultNumber, faultPlace}
 use Rattle.yurdelmiz.specs.Call.{Call, Outcome, refused, given, callOf, statusAt}
@@ -85,7 +86,7 @@ elementsCall text buffer = callOf (eqb (length buffer) 52) (elementsOutcome (par
 -- ---- yurdelmiz_label
 abbrev pub labelOutcome : Labelling → List ℕ → Outcome
 labelOutcome (labelling.Refused refusal place) after = refused (statusAt (numberOf refusal) place)
-labelOutcome (labelling.Labelled counts) after = given after
+labelOutcome (labelling.Labelled counts size) after = given after
 
 -- the output after labelling with some elements
 unfoldable pub dayOutcome : Elements → List ℕ → List ℕ → Outcome
@@ -95,10 +96,31 @@ unfoldable pub labelCall : List ℕ → List ℕ → List ℕ → Call
 labelCall elements telemetry output =
     callOf (eqb (length elements) 52) (dayOutcome (elementsOf elements) telemetry output) output
 
+-- ---- yurdelmiz_add
+-- the status returned, and the bytes of `buffer` and `answer` afterwards
+pub record AddCall : Type 0 where
+  pub status : ℕ
+  pub buffer : List ℕ
+  pub answer : List ℕ
+
+-- a refusal leaves both as they were
+abbrev pub addEnded : Labelling → List ℕ → List ℕ → List ℕ → AddCall
+addEnded (labelling.Refused refusal place) after buffer answer =
+    record { status = statusAt (numberOf refusal) place; buffer = buffer; answer = answer }
+addEnded (labelling.Labelled counts size) after buffer answer = record { status = 0; buffer = after; answer = addBytes counts size }
+
+unfoldable pub addCall : List ℕ → List ℕ → ℕ → List ℕ → List ℕ → AddCall
+addCall elements buffer size telemetry answer =
+    let el = elementsOf elements in
+    elim (eqb (length elements) 52 && eqb (length answer) 28) [
+      | true ↦ addEnded (adding el buffer size telemetry) (bufferAfter el buffer size telemetry) buffer answer
+      | false ↦ record { status = 255; buffer = buffer; answer = answer }
+    ]
+
 -- ---- yurdelmiz_read
-abbrev pub countsOutcome : FileReading → Outcome
-countsOutcome (reading.Refused refusal place) = refused (statusAt (numberOf refusal) place)
-countsOutcome (reading.Accepted counts) = given (countsBytes counts)
+abbrev pub readOutcome : FileReading → Outcome
+readOutcome (reading.Refused refusal place) = refused (statusAt (numberOf refusal) place)
+readOutcome (reading.Accepted form counts) = given (readBytes form counts)
 
 unfoldable pub readCall : List ℕ → ℕ → List ℕ → Call
-readCall file size buffer = callOf (eqb (length buffer) 12) (countsOutcome (bufferReading file size)) buffer
+readCall file size buffer = callOf (eqb (length buffer) 24) (readOutcome (bufferReading file size)) buffer

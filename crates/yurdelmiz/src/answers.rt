@@ -9,12 +9,13 @@ ghost use mir.Syntax.{w32};
 ghost use mir.Val.{ofZ};
 ghost use Rattle.integer.specs.Bound.{Within};
 ghost use Rattle.sun.specs.Contract.{WithinOne};
-ghost use Rattle.yurdelmiz.specs.Answers.{words, anomalyBytes, sunBytes, positionBytes, stateBytes, elementsBytes, countsBytes};
+ghost use Rattle.yurdelmiz.specs.Answers.{words, anomalyBytes, sunBytes, positionBytes, stateBytes, elementsBytes, countsBytes, readBytes, addBytes};
 ghost use Rattle.yurdelmiz.specs.Call.{statusAt};
 ghost use Rattle.yurdelmiz.specs.Faults.{faultNumber, faultPlace};
 use elements_file::Fault;
 use kepler::Anomaly;
 use label_file::Counts;
+use label_file::Form;
 use orbit::State;
 use orbit::elements::Elements;
 use position::Position;
@@ -113,12 +114,34 @@ pub(crate) fn write_elements(answer: &mut [u8], elements: Elements)
     write_words(answer, 8, &numbers);
 }
 
-pub(crate) fn write_counts(answer: &mut [u8], counts: Counts)
-    requires { ⌜ length (now answer) ≡ 12 ⌝ }
-    ensures { λ _. ⌜ now (answer .exit) ≡ countsBytes counts ⌝ }
+fn write_counts(answer: &mut [u8], at: usize, counts: Counts)
+    requires { ⌜ at + 20 ≤ length (now answer) ⌝ }
+    ensures { λ _. ⌜ now (answer .exit) ≡ sets (now (answer .entry)) at (countsBytes counts) ⌝ }
 {
-    let numbers = [counts.labels, counts.training, counts.test];
-    write_words(answer, 0, &numbers);
+    let numbers = [
+        counts.labels,
+        counts.training,
+        counts.test,
+        counts.dark,
+        counts.dark_test,
+    ];
+    write_words(answer, at, &numbers);
+}
+
+pub(crate) fn write_reading(answer: &mut [u8], form: Form, counts: Counts)
+    requires { ⌜ length (now answer) ≡ 24 ⌝ }
+    ensures { λ _. ⌜ now (answer .exit) ≡ readBytes form counts ⌝ }
+{
+    write_counts(answer, 0, counts);
+    endian::write_u32(answer, 20, form.size() as u32);
+}
+
+pub(crate) fn write_adding(answer: &mut [u8], counts: Counts, size: usize)
+    requires { ⌜ length (now answer) ≡ 28 ⌝ }
+    ensures { λ _. ⌜ now (answer .exit) ≡ addBytes counts size ⌝ }
+{
+    endian::write_u64(answer, 0, size as u64);
+    write_counts(answer, 8, counts);
 }
 
 pub(crate) fn fault_number(fault: Fault) -> u32

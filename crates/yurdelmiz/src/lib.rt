@@ -2,7 +2,7 @@
 ghost use mathlib.Core.Path.{_≡_};
 ghost use Rattle.trig.specs.Contract.{CosineAt};
 ghost use Rattle.trig.specs.ExactSine.{SineAt};
-ghost use Rattle.yurdelmiz.specs.Calls.{keplerCall, sunCall, positionCall, shadeCall, elementsCall, labelCall, readCall};
+ghost use Rattle.yurdelmiz.specs.Calls.{keplerCall, sunCall, positionCall, shadeCall, elementsCall, labelCall, addCall, readCall};
 use eclipse::ShadeAnswer;
 use elements_file::Parsed;
 use kepler::Solution;
@@ -151,7 +151,33 @@ pub extern "C" fn yurdelmiz_label(elements: &[u8], telemetry: &[u8], output: &mu
     let labelled = labelling::label_day(buffers::read_elements(elements), telemetry, output);
     match labelled {
         Labelling::Refused(refusal, place) => answers::status_at(refusal.number(), place),
-        Labelling::Labelled(_) => 0,
+        Labelling::Labelled(_, _) => 0,
+    }
+}
+
+#[no_mangle]
+pub extern "C" fn yurdelmiz_add(
+    elements: &[u8],
+    buffer: &mut [u8],
+    size: usize,
+    telemetry: &[u8],
+    answer: &mut [u8],
+) -> u64
+    ensures { λ r. ⌜ record { status = r; buffer = now (buffer .exit); answer = now (answer .exit) } ≡ addCall (now (elements .entry)) (now (buffer .entry)) size (now (telemetry .entry)) (now (answer .entry)) ⌝ }
+{
+    if elements.len() != 52 {
+        return BAD_BUFFER as u64;
+    }
+    if answer.len() != 28 {
+        return BAD_BUFFER as u64;
+    }
+    let added = labelling::add(buffers::read_elements(elements), buffer, size, telemetry);
+    match added {
+        Labelling::Refused(refusal, place) => answers::status_at(refusal.number(), place),
+        Labelling::Labelled(counts, end) => {
+            answers::write_adding(answer, counts, end);
+            0
+        }
     }
 }
 
@@ -159,14 +185,14 @@ pub extern "C" fn yurdelmiz_label(elements: &[u8], telemetry: &[u8], output: &mu
 pub extern "C" fn yurdelmiz_read(file: &[u8], size: usize, answer: &mut [u8]) -> u64
     ensures { λ r. ⌜ record { status = r; answer = now (answer .exit) } ≡ readCall (now (file .entry)) size (now (answer .entry)) ⌝ }
 {
-    if answer.len() != 12 {
+    if answer.len() != 24 {
         return BAD_BUFFER as u64;
     }
     let reading = label_file::read(file, size);
     match reading {
         FileReading::Refused(refusal, place) => answers::status_at(refusal.number(), place),
-        FileReading::Accepted(counts) => {
-            answers::write_counts(answer, counts);
+        FileReading::Accepted(form, counts) => {
+            answers::write_reading(answer, form, counts);
             0
         }
     }

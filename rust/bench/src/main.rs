@@ -11,6 +11,8 @@
 use std::hint::black_box;
 use std::time::{Duration, Instant};
 
+use reference::file::file_bytes;
+
 /// How long one timing lasts, about.
 const TIMING: Duration = Duration::from_millis(20);
 
@@ -154,7 +156,7 @@ impl<'a> Days<'a> {
 
 fn label(repeats: usize, records: usize) -> Comparison {
     let stock = telemetry(STOCK);
-    let mut outputs = [vec![0; records * 24 + 16], vec![0; records * 24 + 16]];
+    let mut outputs = [vec![0; file_bytes(records)], vec![0; file_bytes(records)]];
     let [library_output, reference_output] = &mut outputs;
     let (mut library_days, mut reference_days) =
         (Days::new(&stock, records), Days::new(&stock, records));
@@ -180,7 +182,7 @@ fn label(repeats: usize, records: usize) -> Comparison {
 /// counter of instructions.
 fn once(records: usize) {
     let day = telemetry(records);
-    let mut files = [vec![0; records * 24 + 16], vec![0; records * 24 + 16]];
+    let mut files = [vec![0; file_bytes(records)], vec![0; file_bytes(records)]];
     let [library, reference] = &mut files;
     black_box(yurdelmiz::label_day(&LIBRARY_ELEMENTS, &day, library).expect("an accepted day"));
     black_box(reference::file::label_day(&ELEMENTS, &day, reference).expect("an accepted day"));
@@ -190,7 +192,7 @@ fn once(records: usize) {
 }
 
 fn read(repeats: usize) -> Comparison {
-    let mut file = vec![0; DAY_RECORDS * 24 + 16];
+    let mut file = vec![0; file_bytes(DAY_RECORDS)];
     reference::file::label_day(&ELEMENTS, &telemetry(DAY_RECORDS), &mut file)
         .expect("an accepted day");
     compare(

@@ -49,6 +49,13 @@ pub struct End {
     pub length: u64,
 }
 
+/// A whole file, which is its own end.
+pub fn read_whole(path: &Path) -> Result<End, Failure> {
+    let mut bytes = Vec::new();
+    open(path)?.read_to_end(&mut bytes).map_err(|error| unread(path, words(&error)))?;
+    Ok(End { length: bytes.len() as u64, bytes })
+}
+
 /// The last `most` bytes of a file of any length.
 pub fn read_end(path: &Path, most: usize) -> Result<End, Failure> {
     let mut file = open(path)?;

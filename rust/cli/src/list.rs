@@ -1,6 +1,6 @@
 //! `list LABELS`: document 01's lines, or the same labels as CSV or JSON, in words and decimals.
 
-use yurdelmiz::{Label, LabelFile, Refused};
+use yurdelmiz::{Counts, Label, LabelFile, Refused};
 
 use crate::arguments::{Arguments, Command, Flag};
 use crate::date;
@@ -38,8 +38,7 @@ fn run(arguments: &Arguments) -> Result<(), Failure> {
 
 /// Document 01's listing.
 fn as_lines(file: &LabelFile) -> String {
-    let counts = file.counts();
-    let (labels, training, test) = (counts.labels, counts.training, counts.test);
+    let Counts { labels, training, test, .. } = file.counts();
     let mut text = format!("labels {labels} training {training} test {test}\n");
     for label in file.labels() {
         let Label { time, revolution, side, shade, reading, elevation } = label;
@@ -91,13 +90,15 @@ fn as_csv(file: &LabelFile) -> String {
 }
 
 fn as_json(file: &LabelFile) -> String {
-    let counts = file.counts();
-    let labels: Vec<String> = file.labels().map(|label| label_json(&label)).collect();
-    let labels =
-        if labels.is_empty() { "[]".to_owned() } else { format!("[\n{}\n]", labels.join(",\n")) };
+    let Counts { labels, training, test, dark, dark_test } = file.counts();
+    let objects: Vec<String> = file.labels().map(|label| label_json(&label)).collect();
+    let objects = match objects.as_slice() {
+        [] => "[]".to_owned(),
+        some => format!("[\n{}\n]", some.join(",\n")),
+    };
     format!(
-        "{{\"counts\": {{\"labels\": {}, \"training\": {}, \"test\": {}}}, \"labels\": {labels}}}\n",
-        counts.labels, counts.training, counts.test
+        "{{\"counts\": {{\"labels\": {labels}, \"training\": {training}, \"test\": {test}, \
+         \"dark\": {dark}, \"dark_test\": {dark_test}}}, \"labels\": {objects}}}\n"
     )
 }
 

@@ -5,8 +5,10 @@
 
 #![deny(unsafe_code)]
 
+mod add;
 mod arguments;
 mod date;
+mod day_input;
 mod decimal;
 mod elements_report;
 mod failure;
@@ -14,6 +16,7 @@ mod help;
 mod input;
 mod label;
 mod label_input;
+mod label_output;
 mod list;
 mod malformed;
 mod output;
@@ -36,7 +39,7 @@ use arguments::Command;
 use failure::Failure;
 
 /// The subcommands beside `help`.
-const COMMANDS: [&Command; 3] = [&label::COMMAND, &list::COMMAND, &plot::COMMAND];
+const COMMANDS: [&Command; 4] = [&label::COMMAND, &add::COMMAND, &list::COMMAND, &plot::COMMAND];
 
 fn run(words: &[OsString]) -> Result<(), Failure> {
     let Some((first, rest)) = words.split_first() else {

@@ -21,7 +21,7 @@ pub fn check(command: &Command, path: &Path, inputs: &[&Path]) -> Result<(), Fai
             if fs::metadata(input).is_ok_and(|input| same_file(&input, &metadata)) {
                 let (path, input) = (quote::path(path), quote::path(input));
                 let other =
-                    if path == input { String::new() } else { format!(", which is {input}") };
+                    if path == input { String::new() } else { format!(", which is {input},") };
                 return Err(command
                     .mistake(format!("{path}{other} is read, and cannot be written as well")));
             }

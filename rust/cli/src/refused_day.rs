@@ -1,31 +1,22 @@
-//! Why a day was not labelled: which file, which line or record, what it holds, and what to do. The refusal is
-//! the library's; which of a refusal's causes it was is found by asking the library again.
+//! Why a day was not labelled or added: which file, which line or record, what it holds, and what to do. The
+//! refusal is the library's; which of a refusal's causes it was is found by asking the library again.
 
 use std::fs;
-use std::path::Path;
 
 use yurdelmiz::{Element, Elements, LabelFile, Refusal, Refused, Sample};
 
 use crate::date;
+use crate::day_input::Day;
 use crate::decimal::{fixed, grouped};
 use crate::elements_report;
 use crate::failure::Failure;
 use crate::input;
 use crate::quote;
-use crate::telemetry_input::Telemetry;
 
 const OUTSIDE: &str = "outside 1900 March 1 to 2100 February 28";
 
-/// What a refused day was made of.
-pub struct Day<'a> {
-    pub elements_path: &'a Path,
-    pub text: &'a [u8],
-    pub elements: &'a Elements,
-    pub telemetry_path: &'a Path,
-    pub telemetry: &'a Telemetry,
-}
-
-pub fn failure(day: &Day, refused: Refused) -> Failure {
+/// Why the day was refused, after so many labels of the file that it was added to.
+pub fn failure(day: &Day, before: u32, refused: Refused) -> Failure {
     let refusal = refused.refusal;
     Failure::refused(match refusal {
         Refusal::Eccentricity => day.of(Element::Eccentricity, refusal),
@@ -37,8 +28,8 @@ pub fn failure(day: &Day, refused: Refused) -> Failure {
         Refusal::EpochRevolution => day.of(Element::EpochRevolution, refusal),
         Refusal::MeanMotionDerivative => day.derivative(),
         Refusal::Time if out_of_range(day.elements.epoch) => day.epoch(),
-        Refusal::Time => day.record(refused.place as usize),
-        Refusal::TelemetryLength => day.length(),
+        Refusal::Time => day.record(refused.place, before),
+        Refusal::TelemetryLength => day.length(before),
         _ => format!("{}: {refused}", quote::path(day.telemetry_path)),
     })
 }
@@ -66,8 +57,8 @@ impl Day<'_> {
 
     /// The element that a refusal is about: the rule, its number and what that stands for.
     fn of(&self, element: Element, refusal: Refusal) -> String {
-        let number = elements_report::number(element, self.elements).to_string();
-        let value = elements_report::value(element, self.elements);
+        let number = elements_report::number(element, &self.elements).to_string();
+        let value = elements_report::value(element, &self.elements);
         let is = if value == number { String::new() } else { format!(" is {value}") };
         self.told(element, &format!("{}: {} {number}{is}", refusal.sentence(), element.name()))
     }
@@ -88,7 +79,7 @@ impl Day<'_> {
         let told = self.of(Element::SemiMajorAxis, Refusal::SemiMajorAxis);
         let lengthened = metres
             .checked_mul(1_000)
-            .map(|axis| Elements { semi_major_axis: axis, ..*self.elements });
+            .map(|axis| Elements { semi_major_axis: axis, ..self.elements });
         match lengthened {
             Some(set) if yurdelmiz::position(&set, set.epoch) != Err(Refusal::SemiMajorAxis) => {
                 format!("{told}; {metres} km are written {}", set.semi_major_axis)
@@ -98,7 +89,7 @@ impl Day<'_> {
     }
 
     fn perigee(&self) -> String {
-        let Elements { eccentricity, semi_major_axis, .. } = *self.elements;
+        let Elements { eccentricity, semi_major_axis, .. } = self.elements;
         let distance =
             u64::from(semi_major_axis) * (10_000_000 - u64::from(eccentricity)) / 10_000_000;
         format!(
@@ -108,7 +99,7 @@ impl Day<'_> {
             self.line(Element::Eccentricity),
             self.line(Element::SemiMajorAxis),
             Refusal::PerigeeDistance.sentence(),
-            elements_report::value(Element::Eccentricity, self.elements),
+            elements_report::value(Element::Eccentricity, &self.elements),
             grouped(semi_major_axis),
             grouped(distance / 1_000),
         )
@@ -116,7 +107,7 @@ impl Day<'_> {
 
     /// The rate that is refused with the other one taken out.
     fn rate(&self) -> String {
-        let alone = Elements { perigee_rate: 0, ..*self.elements };
+        let alone = Elements { perigee_rate: 0, ..self.elements };
         let node = yurdelmiz::position(&alone, alone.epoch) == Err(Refusal::DriftRate);
         let rate = if node { Element::NodeRate } else { Element::PerigeeRate };
         self.of(rate, Refusal::DriftRate)
@@ -125,7 +116,7 @@ impl Day<'_> {
     /// The derivative alone, where it is refused with the greatest mean motion, or both.
     fn derivative(&self) -> String {
         let refusal = Refusal::MeanMotionDerivative;
-        let fastest = Elements { mean_motion: 1_700_000_000, ..*self.elements };
+        let fastest = Elements { mean_motion: 1_700_000_000, ..self.elements };
         if yurdelmiz::position(&fastest, fastest.epoch) == Err(refusal) {
             return self.of(Element::HalfMeanMotionDerivative, refusal);
         }
@@ -138,8 +129,8 @@ impl Day<'_> {
             self.line(Element::MeanMotion),
             self.line(Element::HalfMeanMotionDerivative),
             refusal.sentence(),
-            elements_report::value(Element::MeanMotion, self.elements),
-            elements_report::value(Element::HalfMeanMotionDerivative, self.elements),
+            elements_report::value(Element::MeanMotion, &self.elements),
+            elements_report::value(Element::HalfMeanMotionDerivative, &self.elements),
             fixed(least, 8),
             if half < 0 { "after" } else { "before" },
         )
@@ -153,7 +144,7 @@ impl Day<'_> {
                 .is_ok_and(|end| LabelFile::read(&end.bytes).is_ok())
     }
 
-    fn length(&self) -> String {
+    fn length(&self, before: u32) -> String {
         let path = quote::path(self.telemetry_path);
         if self.is_label_file() {
             return format!("{path}: it is a label file: the order is ELEMENTS TELEMETRY LABELS");
@@ -164,6 +155,14 @@ impl Day<'_> {
             );
         };
         let (records, rest) = (length / Sample::SIZE as u64, length % Sample::SIZE as u64);
+        if rest == 0 && before > 0 {
+            return format!(
+                "{path}: {} records, and the file has {} labels: it has room for {} more, 1,024 in all",
+                grouped(records),
+                grouped(before),
+                grouped(LabelFile::MOST_LABELS as u64 - u64::from(before)),
+            );
+        }
         if rest == 0 {
             return format!(
                 "{path}: {} records, and a day has at most 1,024: label it in parts",
@@ -184,10 +183,15 @@ impl Day<'_> {
         }
     }
 
-    fn record(&self, number: usize) -> String {
+    /// The record, by its own number: the place counts the labels of the file too.
+    fn record(&self, place: u32, before: u32) -> String {
         let epoch = self.elements.epoch;
-        let place =
+        let number = (place - before) as usize;
+        let mut place =
             format!("{}, {}", quote::path(self.telemetry_path), self.telemetry.place(number));
+        if before > 0 {
+            place.push_str(&format!(", behind the file's {} labels", grouped(before)));
+        }
         let Some(time) = self.telemetry.time(number) else {
             return format!("{place}: {}", Refusal::Time.sentence());
         };
@@ -223,11 +227,12 @@ impl Day<'_> {
     fn unix_hint(&self, time: i64) -> Option<String> {
         let reached = |set: &Elements, time: i64| yurdelmiz::position(set, time).is_ok();
         let epoch = self.elements.epoch;
-        if let Some(moved) = time.checked_sub(date::UNIX).filter(|it| reached(self.elements, *it)) {
+        if let Some(moved) = time.checked_sub(date::UNIX).filter(|it| reached(&self.elements, *it))
+        {
             return Some(unix("its time", moved));
         }
         let moved = epoch.checked_sub(date::UNIX)?;
-        let set = Elements { epoch: moved, ..*self.elements };
+        let set = Elements { epoch: moved, ..self.elements };
         reached(&set, time).then(|| unix("the epoch", moved))
     }
 }

@@ -1,4 +1,4 @@
-//! Telemetry as `label` reads it: records of 16 bytes, or CSV turned into them.
+//! Telemetry as `label` and `add` read it: records of 16 bytes, or CSV turned into them.
 
 use std::path::Path;
 

@@ -42,7 +42,7 @@ fn no_record() {
     let folder = Folder::with_example();
     folder.write("telemetry", "");
     folder.label().is(0, "labelled 0 training 0 test 0\n");
-    assert_eq!(folder.read("out").len(), 16);
+    assert_eq!(folder.read("out").len(), 24);
 }
 
 /// Comments, empty lines and leading zeros.

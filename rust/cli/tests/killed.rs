@@ -1,5 +1,5 @@
-//! `label` killed at random moments: the output is the old file or the new one, whole, and nothing that is left
-//! is in the way of the next run.
+//! `label` and `add` killed at random moments: the output is the old file or the new one, whole, and nothing that
+//! is left is in the way of the next run.
 
 mod common;
 
@@ -8,7 +8,7 @@ use std::process::{Child, Stdio};
 use std::thread;
 use std::time::{Duration, Instant};
 
-use common::{Folder, LABELLED, LABELS};
+use common::{Folder, LABELLED, LABELS, TELEMETRY};
 
 const INT: i32 = 2;
 const KILL: i32 = 9;
@@ -37,7 +37,11 @@ impl Random {
 }
 
 fn start(folder: &Folder) -> Child {
-    let mut command = folder.command(["label", "elements", "telemetry", "out"]);
+    start_with(folder, "label")
+}
+
+fn start_with(folder: &Folder, command: &str) -> Child {
+    let mut command = folder.command([command, "elements", "telemetry", "out"]);
     command.stdout(Stdio::null()).stderr(Stdio::null()).spawn().unwrap()
 }
 
@@ -87,6 +91,38 @@ fn a_hundred_times() {
     }
     // With all that is left there.
     folder.label().is(0, LABELLED);
+    assert_eq!(folder.read("out"), LABELS);
+}
+
+/// The labels are those before or those after, and never between.
+#[test]
+fn adding() {
+    let folder = Folder::with_example();
+    let (first, rest) = TELEMETRY.split_at(16 * 500);
+    folder.write("telemetry", first);
+    folder.label().fails(0);
+    let old = folder.read("out");
+    folder.write("telemetry", rest);
+    let usual = usual_time(&folder);
+    let mut random = Random(3);
+    for turn in 0..60 {
+        folder.write("out", &old);
+        let signal = [INT, TERM, KILL][turn % 3];
+        let left = temporary(&folder);
+        let mut child = start_with(&folder, "add");
+        thread::sleep(Duration::from_micros(random.below(usual * 5 / 4)));
+        send(&child, signal);
+        let status = child.wait().unwrap();
+        let now = folder.read("out");
+        assert!(now == LABELS || now == old, "turn {turn}: signal {signal}: {} bytes", now.len());
+        assert!(now == LABELS || !status.success(), "turn {turn}: nothing added, and {status}");
+        if signal != KILL {
+            assert_eq!(temporary(&folder), left, "turn {turn}: signal {signal}");
+        }
+    }
+    folder.write("out", &old);
+    let run = folder.run(["add", "elements", "telemetry", "out"]);
+    run.is(0, &format!("added 460 {LABELLED}"));
     assert_eq!(folder.read("out"), LABELS);
 }
 

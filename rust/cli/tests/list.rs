@@ -4,13 +4,38 @@ mod common;
 
 use std::io;
 
-use common::{label_file, label_with, Folder, LABEL, LABELS};
+use common::{label_file, label_file_in, label_with, labels_with_16_bytes, Folder, LABEL, LABELS};
+use yurdelmiz::Form;
 
 #[test]
 fn document_01() {
     let folder = Folder::new();
-    folder.write("day", label_file(&[LABEL]));
-    folder.run(["list", "day"]).is(0, "labels 1 training 1 test 0\n86400 17 1 1 1 -1 41200000\n");
+    for form in Form::ALL {
+        folder.write("day", label_file_in(form, &[LABEL]));
+        folder
+            .run(["list", "day"])
+            .is(0, "labels 1 training 1 test 0\n86400 17 1 1 1 -1 41200000\n");
+    }
+}
+
+/// Both trailers give the same lines, CSV, JSON and picture.
+#[test]
+fn both_trailers() {
+    let folder = Folder::new();
+    folder.write("day", LABELS);
+    let options = [&["list", "day"][..], &["list", "--csv", "day"], &["list", "--json", "day"]];
+    let printed = options.map(|words| folder.run(words).stdout);
+    folder.run(["plot", "day", "day.svg"]).is(0, "drawn 960\n");
+    let picture = folder.read("day.svg");
+    folder.write("day", labels_with_16_bytes());
+    for (words, printed) in options.iter().zip(&printed) {
+        folder.run(*words).is(0, printed);
+    }
+    folder.run(["plot", "day", "day.svg"]).is(0, "drawn 960\n");
+    assert_eq!(folder.read("day.svg"), picture);
+    assert!(printed[0].starts_with("labels 960 training 227 test 267\n"));
+    let counts = "{\"counts\": {\"labels\": 960, \"training\": 227, \"test\": 267, \"dark\": 75, \"dark_test\": 7}, ";
+    assert!(printed[2].starts_with(counts), "{}", &printed[2][..100]);
 }
 
 /// A code in the lines, a word in CSV and JSON.
@@ -40,18 +65,20 @@ fn shades() {
 #[test]
 fn bytes_ahead() {
     let folder = Folder::new();
-    let file = label_file(&[LABEL]);
     let lines = "labels 1 training 1 test 0\n86400 17 1 1 1 -1 41200000\n";
-    for ahead in [1, 24_551, 24_552, 24_553, 65_536, 200_000] {
-        folder.write("day", [&vec![0; ahead], &file[..]].concat());
-        folder.run(["list", "day"]).is(0, lines);
-        folder.shell("cat day | \"$@\"", &["list", "/dev/stdin"]).is(0, lines);
-    }
-    let longest = label_file(&[LABEL; 1_024]);
-    for ahead in [0, 1, 24_592, 100_000] {
-        folder.write("day", [&vec![0; ahead], &longest[..]].concat());
-        let run = folder.run(["list", "day"]);
-        assert_eq!((run.status, run.stdout.lines().count()), (Some(0), 1_025));
+    for form in Form::ALL {
+        let file = label_file_in(form, &[LABEL]);
+        for ahead in [1, 8, 24_551, 24_552, 24_553, 24_560, 65_536, 200_000] {
+            folder.write("day", [&vec![0; ahead], &file[..]].concat());
+            folder.run(["list", "day"]).is(0, lines);
+            folder.shell("cat day | \"$@\"", &["list", "/dev/stdin"]).is(0, lines);
+        }
+        let longest = label_file_in(form, &[LABEL; 1_024]);
+        for ahead in [0, 1, 7, 8, 9, 24_592, 24_600, 100_000] {
+            folder.write("day", [&vec![0; ahead], &longest[..]].concat());
+            let run = folder.run(["list", "day"]);
+            assert_eq!((run.status, run.stdout.lines().count()), (Some(0), 1_025));
+        }
     }
 }
 
@@ -89,7 +116,7 @@ fn json() {
     folder.write("day", label_file(&[LABEL, other]));
     folder.run(["list", "--json", "day"]).is(
         0,
-        "{\"counts\": {\"labels\": 2, \"training\": 1, \"test\": 1}, \"labels\": [\n\
+        "{\"counts\": {\"labels\": 2, \"training\": 1, \"test\": 1, \"dark\": 1, \"dark_test\": 0}, \"labels\": [\n\
          {\"time\": \"1990-01-01T00:00:00Z\", \"revolution\": 17, \"side\": \"training\", \"shade\": \"dark\", \
          \"reading\": \"valid\", \"elevation_degrees\": 0.0000, \"elevation_sine\": -0.0000000009313225746154785, \
          \"watts\": 10},\n\
@@ -97,8 +124,9 @@ fn json() {
          \"reading\": \"saturated\", \"elevation_degrees\": -30.0000, \"elevation_sine\": -0.5, \"watts\": null}\n]}\n",
     );
     folder.write("none", label_file(&[]));
-    let counts = "{\"counts\": {\"labels\": 0, \"training\": 0, \"test\": 0}, \"labels\": []}\n";
-    folder.run(["list", "--json", "none"]).is(0, counts);
+    let none = "{\"counts\": {\"labels\": 0, \"training\": 0, \"test\": 0, \"dark\": 0, \"dark_test\": 0}, \
+                \"labels\": []}\n";
+    folder.run(["list", "--json", "none"]).is(0, none);
 }
 
 /// Sines and watts of the example read back as the same bits, from CSV and from JSON.
@@ -109,7 +137,7 @@ fn decimals_read_back() {
     let csv = folder.run(["list", "--csv", "day"]).stdout;
     let json = folder.run(["list", "--json", "day"]).stdout;
     let rows = csv.lines().skip(1).zip(json.lines().skip(1));
-    let labels = LABELS[..LABELS.len() - 16].chunks_exact(24);
+    let labels = LABELS[..LABELS.len() - Form::Bytes24.size()].chunks_exact(24);
     let mut compared = 0;
     for ((row, object), label) in rows.zip(labels) {
         let fields: Vec<&str> = row.split(',').collect();
@@ -146,25 +174,59 @@ fn refused(file: &[u8], place: &str, told: &[&str]) {
     assert_eq!(folder.names(), ["day"]);
 }
 
+/// What stands in a trailer's place.
+fn words<const N: usize>(numbers: [u32; N]) -> Vec<u8> {
+    numbers.map(u32::to_le_bytes).concat()
+}
+
 #[test]
 fn trailers() {
-    let trailer = |numbers: [u32; 4]| numbers.map(u32::to_le_bytes).concat();
-    let file = |numbers: [u32; 4]| [&LABEL[..], &trailer(numbers)].concat();
+    let file = |trailer: Vec<u8>| [&LABEL[..], &trailer].concat();
+    let cut = |trailer: Vec<u8>| file(trailer)[1..].to_vec();
     for (bytes, told) in [
-        (vec![], "the file is empty"),
-        (vec![0; 15], "the file has 15 bytes, and a trailer alone has 16"),
-        (trailer([1_025, 0, 0, 24_616]), "says 1,025 labels, and 1,024 are the most"),
-        (trailer([u32::MAX, 0, 0, 0]), "says 4,294,967,295 labels"),
+        (vec![], "the file is empty: a label file has a trailer of 16 bytes at the least"),
+        (vec![0; 15], "the file has 15 bytes, and a trailer alone has 16 or 24"),
+        (words([1_025, 0, 0, 24_616]), "its last 16 bytes, says 1,025 labels, and 1,024 are the most"),
         (
-            file([1, 1, 0, 24]),
-            "says 1 labels, which begin 40 bytes before the end, and a distance of 24 bytes",
+            words([1_025, 0, 0, 0, 0, 24_624]),
+            "its last 24 bytes, says 1,025 labels, and 1,024 are the most",
+        ),
+        (words([u32::MAX, 0, 0, 16]), "says 4,294,967,295 labels"),
+        (words([u32::MAX, 0, 0, 0, 0, 0]), "says 4,294,967,295 labels"),
+        (
+            file(words([1, 1, 0, 64])),
+            "its last 16 bytes, says 1 labels, which begin 40 bytes before the end, and a distance of 64 bytes",
         ),
         (
-            file([1, 1, 0, 40])[1..].to_vec(),
+            file(words([1, 1, 0, 1, 0, 24])),
+            "its last 24 bytes, says 1 labels, which begin 48 bytes before the end, and a distance of 24 bytes",
+        ),
+        (
+            cut(words([1, 1, 0, 40])),
             "says 1 labels, which make 40 bytes with it, and the file has 39: its start is missing",
         ),
-        (file([1, 1, 1, 40]), "says 1 training and 1 test labels, more together than its 1 labels"),
-        (file([1, 2, u32::MAX, 40]), "says 2 training and 4,294,967,295 test labels"),
+        (
+            cut(words([1, 1, 0, 1, 0, 48])),
+            "says 1 labels, which make 48 bytes with it, and the file has 47: its start is missing",
+        ),
+        (
+            file(words([1, 1, 1, 40])),
+            "says 1 training and 1 test labels, more together than its 1 labels",
+        ),
+        (
+            file(words([1, 1, 1, 0, 0, 48])),
+            "says 1 training and 1 test labels, more together than its 1 labels",
+        ),
+        (file(words([1, 2, u32::MAX, 40])), "says 2 training and 4,294,967,295 test labels"),
+        (file(words([1, 1, 0, 2, 0, 48])), "says 2 dark labels, more than its 1 labels"),
+        (file(words([1, 1, 0, 1, 1, 48])), "says 1 dark test labels, more than its 0 test labels"),
+        (file(words([1, 0, 1, 0, 1, 48])), "says 1 dark test labels, more than its 0 dark labels"),
+        (
+            file(words([1, 1, 0, 41])),
+            "its last 4 bytes say a distance of 41 bytes, and the file, of 40, has no trailer with it: a \
+             distance is 24 bytes a label and 16 or 24; it is no label file, or not whole",
+        ),
+        (words([0, 0, 0, 24]), "a distance of 24 bytes, and the file, of 16, has no trailer with it"),
         (common::EXAMPLE.as_bytes().to_vec(), "it is text, and no label file"),
     ] {
         refused(&bytes, "12 at 0", &[told]);
@@ -215,27 +277,35 @@ fn field_rules() {
             "the bits of its watts are 41200000, and a reading without watts has 0",
         ),
     ] {
-        let place = "label 1 (from 0, 64 bytes before the end): ";
-        refused(&label_file(&[LABEL, label, LABEL]), "13 at 1", &[&format!("{place}{told}")]);
+        for (form, back) in [(Form::Bytes16, 64), (Form::Bytes24, 72)] {
+            let told = format!("label 1 (from 0, {back} bytes before the end): {told}");
+            refused(&label_file_in(form, &[LABEL, label, LABEL]), "13 at 1", &[&told]);
+        }
     }
 }
 
+/// Each count one off, within the bounds of 12.
 #[test]
 fn counts() {
-    let mut file = label_file(&[LABEL, LABEL]);
-    file[52] = 1;
-    refused(
-        &file,
-        "13 at 2",
-        &["the trailer says 1 training and 0 test labels, and there are 2 and 0"],
-    );
-    let mut file = label_file(&[LABEL, label_with(8, &[0x41, 0, 0, 0, 2])]);
-    file[56] = 0;
-    refused(
-        &file,
-        "13 at 2",
-        &["the trailer says 1 training and 0 test labels, and there are 1 and 1"],
-    );
+    // Training and dark, test and dark, test and lit.
+    let labels =
+        [LABEL, label_with(8, &[0x41, 0, 0, 0, 2]), label_with(8, &[0x41, 0, 0, 0, 2, 0])].concat();
+    for (training, test, dark, dark_test, told) in [
+        (0, 2, 2, 1, "0 training and 2 test labels, and there are 1 and 2"),
+        (1, 1, 2, 1, "1 training and 1 test labels, and there are 1 and 2"),
+        (1, 2, 1, 1, "1 dark and 1 dark test labels, and there are 2 and 1"),
+        (1, 2, 3, 1, "3 dark and 1 dark test labels, and there are 2 and 1"),
+        (1, 2, 2, 0, "2 dark and 0 dark test labels, and there are 2 and 1"),
+        (1, 2, 2, 2, "2 dark and 2 dark test labels, and there are 2 and 1"),
+    ] {
+        let told = format!("the trailer says {told}");
+        let trailer = words([3, training, test, dark, dark_test, 96]);
+        refused(&[&labels[..], &trailer].concat(), "13 at 3", &[&told]);
+        if (training, test) != (1, 2) {
+            let trailer = words([3, training, test, 88]);
+            refused(&[&labels[..], &trailer].concat(), "13 at 3", &[&told]);
+        }
+    }
 }
 
 /// A full disk is no success, and a reader that went away is no panic.

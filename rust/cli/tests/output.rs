@@ -113,7 +113,7 @@ fn a_long_name() {
 fn no_room_for_the_file() {
     let folder = Folder::with_example();
     let words = ["label", "elements", "telemetry", "out"];
-    // 4,096 bytes; the labels have 23,056.
+    // 4,096 bytes; the labels have 23,064.
     let run = folder.shell("ulimit -f 8; \"$@\"", &words);
     run.is(3, "").tells(&["out: cannot be written: File too large", "nothing is left of it"]);
     assert_eq!(folder.names(), INPUTS);

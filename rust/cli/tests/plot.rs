@@ -3,6 +3,7 @@
 mod common;
 
 use common::{label_file, Folder, LABEL, LABELS};
+use yurdelmiz::LabelFile;
 
 /// The shades of a label, and the fills of their bands.
 const LIT: u8 = 0;
@@ -34,7 +35,7 @@ impl Picture {
         let folder = Folder::new();
         folder.write("day.labels", file);
         let words = [&["plot", "day.labels", "day.svg"], words].concat();
-        let count = (file.len() - 16) / 24;
+        let count = LabelFile::read(file).unwrap().labels().len();
         folder.run(words).is(0, &format!("drawn {count}\n"));
         assert_eq!(folder.names(), ["day.labels", "day.svg"]);
         let text = String::from_utf8(folder.read("day.svg")).unwrap();

@@ -219,7 +219,8 @@ fn unix_seconds() {
 #[test]
 fn lengths() {
     let sentence =
-        "10 at 0: the telemetry is not a whole number of 16-byte records, or has over 1,024";
+        "10 at 0: the telemetry is not a whole number of 16-byte records, or the file would have \
+                    over 1,024 labels";
     for (length, told) in [
         (15, "telemetry: 15 bytes are 0 records of 16 and 15 more: is the file cut short"),
         (16_400, "telemetry: 1,025 records, and a day has at most 1,024: label it in parts"),

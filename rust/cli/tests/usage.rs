@@ -33,6 +33,14 @@ fn mistakes() {
     );
     mistake(&["label", "--csv=yes", "a", "b", "c"], "--csv takes no value");
     mistake(&["label", "--csv", "--csv", "a", "b", "c"], "--csv is given twice");
+    mistake(&["add"], "add: ELEMENTS and TELEMETRY and LABELS are missing");
+    mistake(&["add", "elements", "telemetry"], "add: LABELS is missing");
+    mistake(&["add", "a", "b", "c", "d"], "add: 'd' is one word too many");
+    mistake(
+        &["add", "--json", "a", "b", "c"],
+        "add has no option '--json': a file whose name begins with - stands after --",
+    );
+    mistake(&["ad", "a", "b", "c"], "there is no command 'ad': did you mean add?");
     mistake(&["list"], "list: LABELS is missing");
     mistake(&["list", "a", "b"], "list: 'b' is one word too many");
     mistake(&["list", "--csv", "--json", "a"], "list: --csv and --json are given together");
@@ -48,14 +56,16 @@ fn mistakes() {
         &["plot", "out.svg", "elements"],
         "plot: elements does not end in .svg, and the picture is SVG: the order is LABELS OUT.svg",
     );
-    for ending in ["csv", "JSON", "svg"] {
-        mistake(
-            &["label", "elements", "telemetry", &format!("out.{ending}")],
-            &format!(
-                "label: LABELS would be out.{ending}, and a label file is none of that kind; list --csv, \
-                 list --json and plot make those from it"
-            ),
-        );
+    for command in ["label", "add"] {
+        for ending in ["csv", "JSON", "svg"] {
+            mistake(
+                &[command, "elements", "telemetry", &format!("out.{ending}")],
+                &format!(
+                    "{command}: LABELS would be out.{ending}, and a label file is none of that kind; list \
+                     --csv, list --json and plot make those from it"
+                ),
+            );
+        }
     }
 }
 
@@ -91,7 +101,7 @@ fn help() {
     for words in [&["--help"][..], &["-h"], &["help", "help"], &["help", "--help"]] {
         folder.run(words).is(0, &general.stdout);
     }
-    for name in ["label", "list", "plot"] {
+    for name in ["label", "add", "list", "plot"] {
         let text = folder.run(["help", name]);
         text.fails(0);
         let usage = text.stdout.lines().next().unwrap();

@@ -1,6 +1,7 @@
 //! Checks of what the C interface does with lent bytes: a refusal changes none, a wrong length is
 //! told apart from every refusal, and nothing outside an answer is written.
 
+use reference::trailer::{Counts, Form};
 use yurdelmiz::ffi;
 
 use crate::elements_files;
@@ -56,6 +57,49 @@ fn element_bytes(random: &mut Random) -> (Vec<u8>, bool) {
     (bytes, sound)
 }
 
+/// No labels, and bytes of others ahead of either trailer: accepted until a byte is damaged.
+fn empty_file(random: &mut Random) -> Vec<u8> {
+    let mut file = random.bytes(20);
+    file.extend(Counts::default().trailer(random.pick(&Form::ALL)));
+    if random.one_in(2) {
+        let at = random.index(file.len());
+        file[at] ^= 1;
+    }
+    file
+}
+
+/// A file without labels and nothing to add, so that the place is 0 and the result the status.
+fn add_with_any_lengths(random: &mut Random, report: &mut Report) {
+    let (elements, sound) = element_bytes(random);
+    let mut buffer = empty_file(random);
+    let size = buffer.len();
+    let room = random.bytes(Form::Bytes24.bytes());
+    buffer.extend(room);
+    let before = buffer.clone();
+    let mut status = 0;
+    check_answer(random, report, "add", ffi::ADD_BYTES, sound, |answer, length| {
+        // SAFETY: the slices are `elements`, `buffer`, one of no bytes, and `answer` of `length`.
+        let result = unsafe {
+            ffi::yurdelmiz_add(
+                elements.as_ptr(),
+                elements.len(),
+                buffer.as_mut_ptr(),
+                buffer.len(),
+                size,
+                [].as_ptr(),
+                0,
+                answer,
+                length,
+            )
+        };
+        status = result as u32;
+        status
+    });
+    if status != 0 {
+        report.bytes(&("add", status), "buffer after a refusal", &buffer, &before);
+    }
+}
+
 fn label_with_bad_elements(random: &mut Random, report: &mut Report) {
     let (elements, sound) = element_bytes(random);
     if sound {
@@ -103,17 +147,13 @@ pub fn lent(random: &mut Random, report: &mut Report) {
         ffi::yurdelmiz_shade(x, y, z, sx, sy, sz, answer, length)
     });
 
-    // No labels, and bytes of others ahead of the trailer: accepted until a byte is damaged.
-    let mut file = random.bytes(20);
-    file.extend([[0; 4], [0; 4], [0; 4], [16, 0, 0, 0]].concat());
-    if random.one_in(2) {
-        let at = random.index(file.len());
-        file[at] ^= 1;
-    }
+    let file = empty_file(random);
     check_answer(random, report, "read", ffi::READ_BYTES, true, |answer, length| unsafe {
         // The place of a file without labels is 0, so the result is the status.
         ffi::yurdelmiz_read(file.as_ptr(), file.len(), file.len(), answer, length) as u32
     });
+
+    add_with_any_lengths(random, report);
 
     let text = elements_files::text(random);
     check_answer(random, report, "elements", ffi::ELEMENTS_BYTES, true, |answer, length| unsafe {

@@ -1,5 +1,6 @@
 //! Comparisons of labelled days, byte by byte.
 
+use crate::answers::{counts, library_refused, reference_refused};
 use crate::inputs;
 use crate::numbers::library_elements;
 use crate::random::Random;
@@ -21,12 +22,11 @@ pub fn label(random: &mut Random, report: &mut Report) {
     let lent = telemetry.clone();
     let mut library_output = before.clone();
     let library = yurdelmiz::label_day(&library_elements(&elements), &lent, &mut library_output)
-        .map(|counts| (counts.labels, counts.training, counts.test))
-        .map_err(|refused| (refused.refusal.number(), refused.place));
+        .map(counts)
+        .map_err(library_refused);
     let mut reference_output = before.clone();
     let reference = reference::file::label_day(&elements, &telemetry, &mut reference_output)
-        .map(|counts| (counts.labels, counts.training, counts.test))
-        .map_err(|refused| (refused.refusal.number(), refused.place));
+        .map_err(reference_refused);
 
     let refused = reference.is_err();
     report.outcomes(&input, library, reference);

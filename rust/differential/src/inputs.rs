@@ -1,6 +1,7 @@
 //! Random and edge inputs.
 
 use reference::eclipse::{shade, Shade};
+use reference::file::file_bytes;
 use reference::kepler::{mean_anomaly_of, ECCENTRICITY_MAX};
 use reference::orbit::Elements;
 use reference::sine::sine;
@@ -378,7 +379,7 @@ pub fn eclipse(random: &mut Random) -> (Elements, Vec<u8>) {
 
 /// Room for the output: enough, a byte short, or something else.
 pub fn room(random: &mut Random, telemetry: usize) -> usize {
-    let exact = telemetry / 16 * 24 + 16;
+    let exact = file_bytes(telemetry / 16);
     match random.below(16) {
         0 => exact - 1,
         1 => random.index(exact),

@@ -3,14 +3,17 @@
 //!     differential [--seed N] [--count N]
 //!
 //! Each cheap subject gets `count` comparisons (1,000,000 where none is given), elements files a
-//! tenth of it, labelling and reading a hundredth in days and files. The same seed gives the same
+//! tenth of it, labelling, reading and adding a hundredth in days and files. The same seed gives the same
 //! inputs.
 
+mod additions;
+mod answers;
 mod buffers;
 mod days;
 mod elements_files;
 mod files;
 mod inputs;
+mod label_files;
 mod numbers;
 mod random;
 mod report;
@@ -52,7 +55,7 @@ fn main() -> ExitCode {
         return ExitCode::from(2);
     };
     println!("seed {seed}");
-    let subjects: [(&str, u64, Subject); 11] = [
+    let subjects: [(&str, u64, Subject); 12] = [
         ("sine", count, numbers::sine),
         ("kepler", count, numbers::kepler),
         ("position", count, numbers::position),
@@ -64,6 +67,7 @@ fn main() -> ExitCode {
         ("elements", count / 10, elements_files::elements),
         ("root", count, numbers::root),
         ("revolution", count, numbers::revolution),
+        ("add", count / 100, additions::adding),
     ];
     let mut differences = 0;
     for (number, (name, rounds, compare)) in subjects.into_iter().enumerate() {

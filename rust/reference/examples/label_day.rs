@@ -7,7 +7,7 @@ use std::error::Error;
 use std::fs;
 use std::str::FromStr;
 
-use reference::file::label_day;
+use reference::file::{file_bytes, label_day};
 use reference::orbit::Elements;
 
 fn parse(text: &str) -> Result<Elements, Box<dyn Error>> {
@@ -43,7 +43,7 @@ fn main() -> Result<(), Box<dyn Error>> {
     };
     let elements = parse(&fs::read_to_string(elements)?)?;
     let telemetry = fs::read(telemetry)?;
-    let mut output = vec![0; telemetry.len() / 16 * 24 + 16];
+    let mut output = vec![0; file_bytes(telemetry.len() / 16)];
     match label_day(&elements, &telemetry, &mut output) {
         Ok(_) => Ok(fs::write(labels, output)?),
         Err(refused) => {

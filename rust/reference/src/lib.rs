@@ -15,5 +15,6 @@ pub mod refusal;
 pub mod sine;
 pub mod sun;
 pub mod telemetry;
+pub mod trailer;
 
 pub use refusal::{Refusal, Refused};

@@ -2,7 +2,8 @@
 
 use std::fmt::Write;
 
-use crate::file::{read, Counts};
+use crate::file::read;
+use crate::trailer::Counts;
 
 /// What the listing program prints for a file.
 pub fn listing(file: &[u8]) -> String {
@@ -12,7 +13,7 @@ pub fn listing(file: &[u8]) -> String {
             return format!("refused {} at {}\n", refused.refusal.number(), refused.place);
         }
     };
-    let Counts { labels, training, test } = file.counts;
+    let Counts { labels, training, test, .. } = file.counts;
     let mut text = format!("labels {labels} training {training} test {test}\n");
     for label in file.labels() {
         writeln!(

@@ -19,9 +19,10 @@ pub enum Refusal {
     EpochRevolution = 7,
     /// Epoch or time outside the years covered, or too far apart.
     Time = 8,
-    /// Telemetry that is no whole number of records, or over 1,024 of them.
+    /// Telemetry that is no whole number of records, or over 1,024 of them, with the labels of the file that
+    /// it is added to.
     TelemetryLength = 10,
-    /// Output too short for the labels and the trailer.
+    /// Output, or room from a file's first label on, too short for the labels and the trailer.
     OutputLength = 11,
     /// Length or trailer of a label file.
     Trailer = 12,
@@ -41,7 +42,8 @@ impl Refusal {
     }
 }
 
-/// A refusal from labelling or reading, with the number of the record or label.
+/// A refusal from labelling, reading or adding, with the number of the record or label over the whole day or
+/// file.
 #[derive(Clone, Copy, Debug, PartialEq, Eq)]
 pub struct Refused {
     pub refusal: Refusal,

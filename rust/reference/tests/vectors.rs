@@ -1,9 +1,10 @@
 //! The reference answers every vector.
 
 use reference::eclipse::shade;
-use reference::file::{label_day, read};
+use reference::file::{add, label_day, read};
 use reference::orbit::Position;
 use reference::sun::{sun, Direction};
+use reference::trailer::Counts;
 use reference::{kepler, Refusal};
 use vectors::{Elements, Labeller, Refused};
 
@@ -74,9 +75,23 @@ impl Labeller for Reference {
         label_day(&elements(set), telemetry, output).map(|_| ()).map_err(refused)
     }
 
-    fn read(&self, file: &[u8]) -> Result<[i64; 3], Refused> {
-        let counts = read(file, file.len()).map_err(refused)?.counts;
-        Ok([counts.labels, counts.training, counts.test].map(i64::from))
+    fn read(&self, file: &[u8]) -> Result<[i64; 6], Refused> {
+        let file = read(file, file.len()).map_err(refused)?;
+        let Counts { labels, training, test, dark, dark_test } = file.counts;
+        let [labels, training, test, dark, dark_test] =
+            [labels, training, test, dark, dark_test].map(i64::from);
+        Ok([labels, training, test, dark, dark_test, file.form.bytes() as i64])
+    }
+
+    fn add(
+        &self,
+        set: Elements,
+        buffer: &mut [u8],
+        length: usize,
+        telemetry: &[u8],
+    ) -> Result<usize, Refused> {
+        let added = add(&elements(set), buffer, length, telemetry).map_err(refused)?;
+        Ok(added.length)
     }
 }
 

@@ -1,10 +1,10 @@
-//! Runs the lines of vectors/K11.txt against a labeller.
+//! Runs the lines of vectors/K04.txt against a labeller.
 
 use std::fmt::Display;
 use std::str::{FromStr, SplitWhitespace};
 
 /// The vectors; the head of the file says what a line holds.
-const VECTORS: &str = include_str!("../../../vectors/K11.txt");
+const VECTORS: &str = include_str!("../../../vectors/K04.txt");
 
 /// What the output holds before labelling.
 const FILL: u8 = 0xaa;
@@ -37,7 +37,15 @@ pub trait Labeller {
     fn shade(&self, position: [i64; 3], sun: [i64; 3]) -> Result<[i64; 1], u32>;
     fn label(&self, elements: Elements, telemetry: &[u8], output: &mut [u8])
         -> Result<(), Refused>;
-    fn read(&self, file: &[u8]) -> Result<[i64; 3], Refused>;
+    fn read(&self, file: &[u8]) -> Result<[i64; 6], Refused>;
+    /// Adds to the file in the first `length` bytes, and gives the file's length after it.
+    fn add(
+        &self,
+        elements: Elements,
+        buffer: &mut [u8],
+        length: usize,
+        telemetry: &[u8],
+    ) -> Result<usize, Refused>;
 }
 
 /// The words of a line's inputs, taken one after another.
@@ -126,6 +134,18 @@ fn answer(labeller: &impl Labeller, subject: &str, mut inputs: Inputs) -> String
             outcome.map_or_else(refused_at, |()| accepted([hex(&output)]))
         }
         "read" => labeller.read(&inputs.bytes()).map_or_else(refused_at, accepted),
+        "add" => {
+            let elements = inputs.elements();
+            let before = inputs.bytes();
+            let length = inputs.number();
+            let telemetry = inputs.bytes();
+            let mut buffer = before.clone();
+            let outcome = labeller.add(elements, &mut buffer, length, &telemetry);
+            if outcome.is_err() {
+                assert_eq!(buffer, before, "a refusal wrote");
+            }
+            outcome.map_or_else(refused_at, |length| accepted([length.to_string(), hex(&buffer)]))
+        }
         _ => panic!("no subject {subject}"),
     }
 }
@@ -140,5 +160,5 @@ pub fn run(labeller: &impl Labeller) {
         assert_eq!(found, expected, "{line}");
         compared += 1;
     }
-    assert_eq!(compared, 1_679, "the vectors are all there");
+    assert_eq!(compared, 1_760, "the vectors are all there");
 }

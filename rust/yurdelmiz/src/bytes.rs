@@ -9,6 +9,10 @@ pub(crate) fn u32_at(bytes: &[u8], at: usize) -> u32 {
     u32::from_le_bytes(array_at(bytes, at))
 }
 
+pub(crate) fn u64_at(bytes: &[u8], at: usize) -> u64 {
+    u64::from_le_bytes(array_at(bytes, at))
+}
+
 pub(crate) fn i32_at(bytes: &[u8], at: usize) -> i32 {
     i32::from_le_bytes(array_at(bytes, at))
 }

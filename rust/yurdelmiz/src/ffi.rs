@@ -33,7 +33,9 @@ pub const POSITION_BYTES: usize = 68;
 /// Length of the answer of [`yurdelmiz_shade`].
 pub const SHADE_BYTES: usize = 1;
 /// Length of the answer of [`yurdelmiz_read`].
-pub const READ_BYTES: usize = 12;
+pub const READ_BYTES: usize = 24;
+/// Length of the answer of [`yurdelmiz_add`].
+pub const ADD_BYTES: usize = 28;
 
 extern "C" {
     /// The sine of an angle.
@@ -97,6 +99,19 @@ extern "C" {
         file: *const u8,
         file_len: usize,
         size: usize,
+        answer: *mut u8,
+        answer_len: usize,
+    ) -> u64;
+
+    /// Adds telemetry to the label file in the first `size` bytes of `buffer`.
+    pub fn yurdelmiz_add(
+        elements: *const u8,
+        elements_len: usize,
+        buffer: *mut u8,
+        buffer_len: usize,
+        size: usize,
+        telemetry: *const u8,
+        telemetry_len: usize,
         answer: *mut u8,
         answer_len: usize,
     ) -> u64;

@@ -5,7 +5,7 @@
 //! a turn, sines and direction components 2^-30, times are seconds from 1990 Jan 0.0.
 //!
 //! ```
-//! use yurdelmiz::{label_to_vec, parse_elements, LabelFile, Reading, Sample, Shade, Side};
+//! use yurdelmiz::{add_to_vec, label_to_vec, parse_elements, LabelFile, Reading, Sample, Shade, Side};
 //!
 //! let elements = parse_elements(
 //!     b"eccentricity 6100000
@@ -23,12 +23,17 @@
 //! ",
 //! )?;
 //! let sample = Sample { time: elements.epoch + 86_400, volts: 14.0, amperes: 0.5 };
-//! let bytes = label_to_vec(&elements, &sample.to_bytes())?;
+//! let mut bytes = label_to_vec(&elements, &sample.to_bytes())?;
 //!
 //! let file = LabelFile::read(&bytes)?;
 //! let label = file.labels().next().expect("a label for the record");
 //! assert_eq!((label.revolution, label.side), (1629, Side::Training));
 //! assert_eq!((label.shade, label.reading), (Shade::Dark, Reading::Valid(7.0)));
+//!
+//! let later = Sample { time: sample.time + 60, ..sample };
+//! let counts = add_to_vec(&elements, &mut bytes, &later.to_bytes())?;
+//! assert_eq!((counts.labels, counts.dark), (2, 2));
+//! assert_eq!(bytes, label_to_vec(&elements, &[sample.to_bytes(), later.to_bytes()].concat())?);
 //! # Ok::<(), Box<dyn std::error::Error>>(())
 //! ```
 
@@ -47,6 +52,7 @@ mod orbit;
 mod refusal;
 mod sun;
 mod telemetry;
+mod trailer;
 mod trig;
 mod unknown_byte;
 
@@ -55,11 +61,12 @@ pub use elements::Elements;
 pub use elements_file::{parse_elements, Element, Fault, Malformed};
 pub use kepler::{kepler, EccentricAnomaly};
 pub use label::{Label, Side};
-pub use label_file::{read, Counts, LabelFile};
-pub use labelling::{label_day, label_to_vec};
+pub use label_file::{read, LabelFile};
+pub use labelling::{add, add_to_vec, label_day, label_to_vec, Added};
 pub use orbit::{position, Position, State};
 pub use refusal::{Refusal, Refused};
 pub use sun::{sun, Direction, Sun};
 pub use telemetry::{Reading, Sample};
+pub use trailer::{Counts, Form};
 pub use trig::{cosine, sine};
 pub use unknown_byte::UnknownByte;

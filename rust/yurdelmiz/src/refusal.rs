@@ -23,13 +23,15 @@ pub enum Refusal {
     /// 8: epoch or time outside -2,834,956,800 to 3,476,476,799, or over 31,622,400 s apart, or over
     /// 2,592,000 s where the mean motion's derivative is not 0.
     Time,
-    /// 10: no multiple of 16 bytes, or over 1,024 records.
+    /// 10: no multiple of 16 bytes, or over 1,024 records, with the labels of the file that they are
+    /// added to.
     TelemetryLength,
-    /// 11: shorter than 24 bytes a record and 16.
+    /// 11: shorter than 24 bytes a record and 24; in adding, for the labels of the file too, from the
+    /// first of them on.
     OutputLength,
     /// 12: a label file's length, or a number of its trailer.
     Trailer,
-    /// 13: a label breaks a field rule, or the trailer's counts are not those of the labels.
+    /// 13: a label breaks a field rule, or a count of the trailer is not that of the labels.
     Labels,
     /// 14: of a position beyond 200,000,000 metres, or of the Sun beyond 2^30, either way.
     Component,
@@ -48,7 +50,7 @@ const TABLE: [(Refusal, u32, &str); 14] = [
     (Refusal::DriftRate, 6, "a drift rate is beyond 20 degrees a day"),
     (Refusal::EpochRevolution, 7, "the epoch's revolution is above 99,999"),
     (Refusal::Time, 8, "the time, or the epoch, is not within 1900 March 1 to 2100 February 28, or they are over 366 days apart, or over 30 where the mean motion's derivative is not 0"),
-    (Refusal::TelemetryLength, 10, "the telemetry is not a whole number of 16-byte records, or has over 1,024"),
+    (Refusal::TelemetryLength, 10, "the telemetry is not a whole number of 16-byte records, or the file would have over 1,024 labels"),
     (Refusal::OutputLength, 11, "the output has no room for the labels"),
     (Refusal::Trailer, 12, "the label file's length and its trailer do not fit"),
     (Refusal::Labels, 13, "a label breaks the rules, or the trailer's counts are not those of the labels"),
@@ -85,7 +87,8 @@ impl fmt::Display for Refusal {
 
 impl Error for Refusal {}
 
-/// A refusal from labelling or reading, with the number of the record or label from 0.
+/// A refusal from labelling, reading or adding, with the number of the record or label from 0, which in
+/// adding counts over the whole file.
 #[derive(Clone, Copy, Debug, PartialEq, Eq, Hash)]
 pub struct Refused {
     /// Why.

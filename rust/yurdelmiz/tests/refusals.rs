@@ -1,7 +1,9 @@
-//! Refusals: their numbers and texts, those of the elements in their order, the limits of 16 and 8, and the
-//! shades that 13 knows.
+//! Refusals: their numbers and texts, those of the elements in their order, the limits of 16 and 8, the shades
+//! that 13 knows, and the bounds of the dark counts.
 
-use yurdelmiz::{label_to_vec, position, read, Counts, Elements, Refusal, Refused, Sample};
+use yurdelmiz::{
+    label_to_vec, position, read, Counts, Elements, Form, Label, Refusal, Refused, Sample,
+};
 
 /// Oscar-10, from source document 001.
 const OSCAR_10: Elements = Elements {
@@ -46,10 +48,10 @@ fn a_refused_record_names_its_place() {
     let mut telemetry = [0; 32];
     telemetry[..8].copy_from_slice(&OSCAR_10.epoch.to_le_bytes());
     telemetry[16..24].copy_from_slice(&i64::MAX.to_le_bytes());
-    let mut output = [7; 64];
+    let mut output = [7; 72];
     let refused = yurdelmiz::label_day(&OSCAR_10, &telemetry, &mut output).unwrap_err();
     assert_eq!(refused, Refused { refusal: Refusal::Time, place: 1 });
-    assert_eq!(output, [7; 64]);
+    assert_eq!(output, [7; 72]);
     assert!(refused.to_string().starts_with("refused 8 at 1: "));
 }
 
@@ -114,21 +116,59 @@ fn times_within_reach() {
     }
 }
 
-/// 13 knows the shades 0 to 2.
+/// 13 knows the shades 0 to 2. Of these dark alone is counted.
 #[test]
 fn shades_of_a_file() {
     let sample = Sample { time: OSCAR_10.epoch, volts: 14.0, amperes: 0.5 };
     let mut file = label_to_vec(&OSCAR_10, &sample.to_bytes()).unwrap();
     assert_eq!(file[13], 1, "the worked example is dark");
-    let counts = Counts { labels: 1, training: 1, test: 0 };
-    for shade in 0..=2 {
+    let counts = Counts { labels: 1, training: 1, test: 0, dark: 1, dark_test: 0 };
+    assert_eq!(read(&file, file.len()), Ok((counts, Form::Bytes24)));
+    let dark_at = Label::SIZE + 12;
+    for shade in [0, 2] {
         file[13] = shade;
-        assert_eq!(read(&file, file.len()), Ok(counts), "shade {shade}");
+        file[dark_at] = 1;
+        let refused = Refused { refusal: Refusal::Labels, place: 1 };
+        assert_eq!(read(&file, file.len()), Err(refused), "shade {shade}");
+        file[dark_at] = 0;
+        let counts = Counts { dark: 0, ..counts };
+        assert_eq!(read(&file, file.len()), Ok((counts, Form::Bytes24)), "shade {shade}");
     }
     for shade in 3..=255 {
         file[13] = shade;
         let refused = read(&file, file.len()).unwrap_err();
         assert_eq!(refused, Refused { refusal: Refusal::Labels, place: 0 }, "shade {shade}");
         assert!(refused.to_string().starts_with("refused 13 at 0: "));
+    }
+}
+
+/// 12 bounds dark by the labels, and dark test by test and by dark; within the bounds a count that is not
+/// that of the labels is 13, behind the last label.
+#[test]
+fn bounds_of_the_dark_counts() {
+    let sample = Sample { time: OSCAR_10.epoch, volts: 14.0, amperes: 0.5 };
+    let file = label_to_vec(&OSCAR_10, &sample.to_bytes().repeat(3)).unwrap();
+    let trailer = 3 * Label::SIZE;
+    for (training, test, dark, dark_test, number) in [
+        (3, 0, 2, 0, 13),
+        (3, 0, 4, 0, 12),
+        (3, 0, u32::MAX, 0, 12),
+        // Over test, and not over dark.
+        (2, 1, 3, 1, 13),
+        (2, 1, 3, 2, 12),
+        (3, 0, 3, 1, 12),
+        // Over dark, and not over test.
+        (0, 3, 1, 1, 13),
+        (0, 3, 1, 2, 12),
+        (0, 3, 0, u32::MAX, 12),
+    ] {
+        let mut file = file.clone();
+        for (word, count) in [training, test, dark, dark_test].into_iter().enumerate() {
+            let at = trailer + 4 * (word + 1);
+            file[at..at + 4].copy_from_slice(&count.to_le_bytes());
+        }
+        let refused = read(&file, file.len()).unwrap_err();
+        let place = if number == 13 { 3 } else { 0 };
+        assert_eq!((refused.refusal.number(), refused.place), (number, place));
     }
 }

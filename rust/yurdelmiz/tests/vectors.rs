@@ -1,7 +1,7 @@
 //! The proved library answers every vector.
 
 use vectors::{Elements, Labeller, Refused};
-use yurdelmiz::{Direction, Position, Refusal};
+use yurdelmiz::{Counts, Direction, Position, Refusal};
 
 struct Library;
 
@@ -72,9 +72,23 @@ impl Labeller for Library {
         yurdelmiz::label_day(&elements(set), telemetry, output).map(|_| ()).map_err(refused)
     }
 
-    fn read(&self, file: &[u8]) -> Result<[i64; 3], Refused> {
-        let counts = yurdelmiz::read(file, file.len()).map_err(refused)?;
-        Ok([counts.labels, counts.training, counts.test].map(i64::from))
+    fn read(&self, file: &[u8]) -> Result<[i64; 6], Refused> {
+        let (counts, form) = yurdelmiz::read(file, file.len()).map_err(refused)?;
+        let Counts { labels, training, test, dark, dark_test } = counts;
+        let [labels, training, test, dark, dark_test] =
+            [labels, training, test, dark, dark_test].map(i64::from);
+        Ok([labels, training, test, dark, dark_test, form.size() as i64])
+    }
+
+    fn add(
+        &self,
+        set: Elements,
+        buffer: &mut [u8],
+        length: usize,
+        telemetry: &[u8],
+    ) -> Result<usize, Refused> {
+        let added = yurdelmiz::add(&elements(set), buffer, length, telemetry).map_err(refused)?;
+        Ok(added.size)
     }
 }
 

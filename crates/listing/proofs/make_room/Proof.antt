@@ -9,6 +9,7 @@ use native.Mathlib.Omega.{arith}
 use denote.Ref.{now}
 use lib.ListN.{length, take, drop, length-drop}
 use lib.Seq.{take-all, take-at, take-length}
+use Rattle.label_file.specs.Trailer.{trailerSize}
 use Rattle.label_file.specs.File.{longest}
 use Rattle.label_file.proofs.Readings.{rest-part}
 use Rattle.listing.specs.Contract.{RoomMade}
@@ -25,6 +26,7 @@ room-left window end h =
 half-kept : (window rest half after : List ℕ) (end : ℕ) → length window ≡ 2 * longest → end ≡ 2 * longest
     → let part = take (length window - longest) (drop longest window) in half ≡ take (length part) part ++ rest
     → after ≡ take (length half) half ++ drop (length half) window → RoomMade window end after longest
+unfolding longest trailerSize
 half-kept window rest half after end n full e f =
     let second = drop longest window in
     let part = take (length window - longest) second in
@@ -44,31 +46,8 @@ half-kept window rest half after end n full e f =
 returns : tie.Need-returns
 returns c = room-left _ _ (omega arith)
 
-sub-copy : tie.Need-sub-copy
-sub-copy c = search needs
-
-part-copy-start : tie.Need-part-copy-start
-part-copy-start c = search needs
-
-part-copy-end : tie.Need-part-copy-end
-part-copy-end c = search needs
-
-slice-aggregate-copy : tie.Need-slice-aggregate-copy
-slice-aggregate-copy c = search needs
-
-copy-requires : tie.Need-copy-requires
-copy-requires c κs = search needs
-
-slice-aggregate-copy-2 : tie.Need-slice-aggregate-copy-2
-slice-aggregate-copy-2 c = search needs
-
-copy-requires-2 : tie.Need-copy-requires-2
-copy-requires-2 c κs = search needs
-
-same-length : tie.Need-same-length
-same-length c = search needs
-
 returns-2 : tie.Need-returns-2
+unfolding longest trailerSize
 returns-2 c =
     let d = c .before .before in
     let e = d .before .before .before .before in
@@ -77,16 +56,17 @@ returns-2 c =
     half-kept (now (s .args .window)) _ _ _ (s .args .end) (s .pre .0) (omega arith) (e .copy .ensures .1) (d .copy2 .ensures .1)
 
 pub make-room-spec : {M : Type 1} → statement M
+unfolding longest trailerSize
 make-room-spec =
     tie.close
     (tie.spec
     returns
-    sub-copy
-    part-copy-start
-    part-copy-end
-    slice-aggregate-copy
-    copy-requires
-    slice-aggregate-copy-2
-    copy-requires-2
-    same-length
+    (λ c. search needs)
+    (λ c. search needs)
+    (λ c. search needs)
+    (λ c. search needs)
+    (λ c κs. search needs)
+    (λ c. search needs)
+    (λ c κs. search needs)
+    (λ c. search needs)
     returns-2)

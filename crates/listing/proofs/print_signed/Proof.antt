@@ -7,11 +7,10 @@ use Rattle.listing.proofs.print_signed.Tie as tie
 cast-print-long : tie.Need-cast-print-long
 cast-print-long c = rw (toZ-ofZ (c .fits .n)) (sfits-widen tt (c .fits .n))
 
-print-long-requires : tie.Need-print-long-requires
-print-long-requires c κs = search needs
-
-returns : tie.Need-returns
-returns c = search needs
-
 pub print-signed-spec : {M : Type 1} → statement M
-print-signed-spec = tie.close (tie.spec cast-print-long print-long-requires returns)
+print-signed-spec =
+    tie.close
+    (tie.spec
+    cast-print-long
+    (λ c κs. search needs)
+    (λ c. search needs))

@@ -1,7 +1,7 @@
 -- `yurdelmiz::yurdelmiz_read` meets its contract. Assumes nothing.
 use mathlib.Core.Path.{sym, ap, _∙_}
 use borrow.Author.Tests.{eq-eqb, ne-eqb}
-use Rattle.yurdelmiz.specs.Calls.{countsOutcome, readCall}
+use Rattle.yurdelmiz.specs.Calls.{readOutcome, readCall}
 use Rattle.yurdelmiz.proofs.Endings.{bad-buffer, ends-refused, ends-given}
 use borrow.Author.Needs.{needs}
 use Rattle.yurdelmiz.proofs.yurdelmiz_read.Statement.{statement}
@@ -9,20 +9,20 @@ use Rattle.yurdelmiz.proofs.yurdelmiz_read.Tie as tie
 
 returns : tie.Need-returns
 unfolding readCall
-returns c = bad-buffer _ _ _ (ne-eqb _ 12 (c .if1 .taken))
+returns c = bad-buffer _ _ _ (ne-eqb _ 24 (c .if1 .taken))
 
 returns-2 : tie.Need-returns-2
 unfolding readCall
 returns-2 c =
     let r = c .before .before .before .before .before in
-    ends-refused _ _ _ (rw (c .before .number .ensures) at (c .status-at .ensures)) (eq-eqb _ 12 (r .before .if1 .left)) (ap countsOutcome (sym (r .read .ensures) ∙ c .before .before .before .reading .given .1))
+    ends-refused _ _ _ (rw (c .before .number .ensures) at (c .status-at .ensures)) (eq-eqb _ 24 (r .before .if1 .left)) (ap readOutcome (sym (r .read .ensures) ∙ c .before .before .before .reading .given .1))
 
 returns-3 : tie.Need-returns-3
 unfolding readCall
 returns-3 c =
     let w = c .before .before in
     let r = w .before .before .before .before .before in
-    ends-given _ _ _ (w .write-counts .ensures) (eq-eqb _ 12 (r .before .if1 .left)) (ap countsOutcome (sym (r .read .ensures) ∙ w .before .before .before .reading2 .given .1))
+    ends-given _ _ _ (w .write-reading .ensures) (eq-eqb _ 24 (r .before .if1 .left)) (ap readOutcome (sym (r .read .ensures) ∙ w .before .before .before .reading2 .given .1))
 
 pub yurdelmiz-read-spec : {M : Type 1} → statement M
 yurdelmiz-read-spec =

@@ -9,6 +9,8 @@ use std::path::{Path, PathBuf};
 use std::process::{self, Command, Output, Stdio};
 use std::sync::atomic::{AtomicU32, Ordering};
 
+use yurdelmiz::Form;
+
 pub const COMMAND: &str = env!("CARGO_BIN_EXE_yurdelmiz");
 
 /// The example's elements, with comments.
@@ -149,14 +151,31 @@ impl Run {
     }
 }
 
-/// A label file of its labels' bytes, with the trailer that their sides make.
+/// A label file of its labels' bytes, with the trailer of 24 bytes that they make.
 pub fn label_file(labels: &[[u8; 24]]) -> Vec<u8> {
-    let mut file = labels.concat();
-    let count = |side: u8| labels.iter().filter(|label| label[12] == side).count();
-    for number in [labels.len(), count(1), count(2), 24 * labels.len() + 16] {
-        file.extend((number as u32).to_le_bytes());
+    label_file_in(Form::Bytes24, labels)
+}
+
+/// The same with a trailer of this form.
+pub fn label_file_in(form: Form, labels: &[[u8; 24]]) -> Vec<u8> {
+    let count = |wanted: fn(&[u8; 24]) -> bool| labels.iter().filter(|label| wanted(label)).count();
+    let (training, test) = (count(|label| label[12] == 1), count(|label| label[12] == 2));
+    let mut numbers = vec![labels.len(), training, test];
+    if form == Form::Bytes24 {
+        numbers.push(count(|label| label[13] == 1));
+        numbers.push(count(|label| label[13] == 1 && label[12] == 2));
     }
-    file
+    numbers.push(form.distance(labels.len()));
+    let trailer = numbers.into_iter().flat_map(|number| (number as u32).to_le_bytes());
+    labels.concat().into_iter().chain(trailer).collect()
+}
+
+/// The example's labels with the trailer of 16 bytes.
+pub fn labels_with_16_bytes() -> Vec<u8> {
+    let body = &LABELS[..LABELS.len() - Form::Bytes24.size()];
+    let labels: Vec<[u8; 24]> =
+        body.chunks_exact(24).map(|label| label.try_into().unwrap()).collect();
+    label_file_in(Form::Bytes16, &labels)
 }
 
 /// The label of document 01's listing: 1990-01-01 00:00:00, revolution 17, training, dark, 10 watts.

@@ -2,35 +2,52 @@
 use borrow.Author.Needs.{needs}
 use Prim.Native.Nat.{_+_}
 use native.Mathlib.Omega.{arith}
-use lib.Dec.{eqb}
-use Rattle.label_file.specs.Counts.{counted}
-use Rattle.label_file.proofs.Sequences.{bit-le}
+use Rattle.label_file.specs.Counts.{isOn, isDark, isDarkTest, counted}
 use Rattle.label_file.proofs.Counts.with.Statement.{statement}
 use Rattle.label_file.proofs.Counts.with.Tie as tie
 
-add-t4 : tie.Need-add-t4
-add-t4 c = search needs
+add-t7 : tie.Need-add-t7
+add-t7 c =
+    let s = c .before .before .before in
+    record { fits = omega (arith, s .pre .labels, s .pre .bounded .sides, c .before .one-if .ensures .1) }
 
-one-if-on-requires : tie.Need-one-if-on-requires
-one-if-on-requires c κs = search needs
+add-t9 : tie.Need-add-t9
+add-t9 c =
+    let s = c .before .before .before .before .before in
+    record { fits = omega (arith, s .pre .labels, s .pre .bounded .sides, c .before .one-if2 .ensures .1) }
 
-add-t6 : tie.Need-add-t6
-add-t6 c = omega (arith, c .before .one-if-on .ensures, bit-le (eqb (c .before .before .before .args .label .side) 1))
+add-t11 : tie.Need-add-t11
+add-t11 c =
+    let s = c .before .before .before .before .before .before .before in
+    record { fits = omega (arith, s .pre .labels, s .pre .bounded .dark, c .before .one-if3 .ensures .1) }
 
-one-if-on-requires-2 : tie.Need-one-if-on-requires-2
-one-if-on-requires-2 c κs = search needs
-
-add-t8 : tie.Need-add-t8
-add-t8 c = omega (arith, c .before .one-if-on2 .ensures, bit-le (eqb (c .before .before .before .before .before .args .label .side) 2))
+add-t13 : tie.Need-add-t13
+add-t13 c =
+    let s = c .before .before .before .before .before .before .before .before .before in
+    record { fits = omega (arith, s .pre .labels, s .pre .bounded .dark, s .pre .bounded .dark-test, c .before .one-if-dark .ensures .1) }
 
 returns : tie.Need-returns
-unfolding counted
+unfolding counted isOn isDark isDarkTest
 returns c =
-    let s = c .before .before .before .before .before .args .self in
-    let a = c .before .before .before .one-if-on .ensures in
-    let b = c .before .one-if-on2 .ensures in
-    λ i. record { labels = s .labels + 1; training = s .training + a i; test = s .test + b i }
+    let d = c .before in
+    let s = d .before .before .before .before .before .before .before .before .args .self in
+    let training = d .before .before .before .before .before .before .one-if .ensures .0 in
+    let test = d .before .before .before .before .one-if2 .ensures .0 in
+    let dark = d .before .before .one-if3 .ensures .0 in
+    let dark-test = d .one-if-dark .ensures .0 in
+    λ i. record { labels = s .labels + 1; training = s .training + training i; test = s .test + test i; dark = s .dark + dark i; «dark_test» = s .«dark_test» + dark-test i }
 
 pub with-spec : {M : Type 1} → statement M
 with-spec =
-    tie.close (tie.spec add-t4 one-if-on-requires add-t6 one-if-on-requires-2 add-t8 returns)
+    tie.close
+    (tie.spec
+    (λ c. search needs)
+    (λ c κs. search needs)
+    add-t7
+    (λ c κs. search needs)
+    add-t9
+    (λ c κs. search needs)
+    add-t11
+    (λ c κs. search needs)
+    add-t13
+    returns)

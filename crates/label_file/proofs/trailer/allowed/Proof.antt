@@ -1,53 +1,37 @@
 -- `label_file::trailer::allowed` meets its contract. Assumes nothing.
 use borrow.Author.Needs.{needs}
-use Prim.Native.Nat.{_+_, _≤_}
-use native.Mathlib.Omega.{arith}
 use mathlib.Core.Path.{_≡_, _∙_, sym}
-use borrow.Author.Tests.{lt-leb}
 use Rattle.label_file.specs.Trailer.{distanceBack}
-use Rattle.label_file.proofs.Trailers.{subtracted, many, distance-off, distance-over, counts-decide}
+use Rattle.label_file.proofs.Trailers.{many, distance-off, distance-over, counts-decide}
 use Rattle.label_file.proofs.trailer.allowed.Statement.{statement}
 use Rattle.label_file.proofs.trailer.allowed.Tie as tie
 
 returns : tie.Need-returns
-returns c = let a = c .before .before .args in many (a .stated) (a .distance) (a .size) (c .if1 .taken)
-
-distance-back-requires : tie.Need-distance-back-requires
-distance-back-requires c κs = search needs
+returns c = let a = c .before .before .args in many (a .form) (a .stated) (a .distance) (a .size) (c .if1 .taken)
 
 returns-2 : tie.Need-returns-2
 returns-2 c =
     let b = c .before in
     let a = b .before .before .before .args in
-    distance-off (a .stated) (a .distance) (a .size) (b .before .if1 .left) (λ q. c .if2 .taken (q ∙ sym (b .distance-back .ensures)))
+    distance-off (a .form) (a .stated) (a .distance) (a .size) (b .before .if1 .left) (λ q. c .if2 .taken (q ∙ sym (b .distance-back .ensures)))
 
 -- the distance is the one back to the first label
-distance-is : (c : tie.Else2) → let a = c .before .before .before .before .args in a .distance ≡ distanceBack (a .stated .labels)
+distance-is : (c : tie.Else2) → let a = c .before .before .before .before .args in a .distance ≡ distanceBack (a .form) (a .stated .labels)
 distance-is c = c .if2 .left ∙ c .before .distance-back .ensures
 
 returns-3 : tie.Need-returns-3
 returns-3 c =
     let d = c .before in
     let a = d .before .before .before .before .args in
-    distance-over (a .stated) (a .distance) (a .size) (d .before .before .if1 .left) (distance-is d) (c .if3 .taken)
+    distance-over (a .form) (a .stated) (a .distance) (a .size) (d .before .before .if1 .left) (distance-is d) (c .if3 .taken)
 
 returns-4 : tie.Need-returns-4
 returns-4 c =
-    let s = c .before .before in
+    let s = c .before in
     let d = s .before in
     let a = d .before .before .before .before .args in
-    sym (lt-leb (a .stated .training + a .stated .test) (a .stated .labels) (omega arith))
-    ∙ counts-decide (a .stated) (a .distance) (a .size) (d .before .before .if1 .left) (distance-is d) (s .if3 .left)
-
-returns-5 : tie.Need-returns-5
-returns-5 c =
-    let s = c .before .before .before .before in
-    let d = s .before in
-    let a = d .before .before .before .before .args in
-    let l : a .stated .training ≤ a .stated .labels = c .before .before .if4 .left in
-    subtracted (a .stated .training) (a .stated .test) (a .stated .labels) l
-    ∙ counts-decide (a .stated) (a .distance) (a .size) (d .before .before .if1 .left) (distance-is d) (s .if3 .left)
+    c .counts-allowed .ensures ∙ counts-decide (a .form) (a .stated) (a .distance) (a .size) (d .before .before .if1 .left) (distance-is d) (s .if3 .left)
 
 pub allowed-spec : {M : Type 1} → statement M
 allowed-spec =
-    tie.close (tie.spec returns distance-back-requires returns-2 returns-3 returns-4 returns-5)
+    tie.close (tie.spec returns (λ c κs. search needs) returns-2 returns-3 (λ c κs. search needs) returns-4)

@@ -1,18 +1,12 @@
 -- `label_file::trailer::distance_back` meets its contract. Assumes nothing.
 use borrow.Author.Needs.{needs}
-use Rattle.label_file.specs.Trailer.{trailerSize}
+use native.Mathlib.Omega.{arith}
+use Rattle.label_file.proofs.Trailers.{size-bounds}
 use Rattle.label_file.proofs.trailer.distance_back.Statement.{statement}
 use Rattle.label_file.proofs.trailer.distance_back.Tie as tie
 
-mul-result : tie.Need-mul-result
-mul-result c = search needs
-
 add-result : tie.Need-add-result
-add-result c = search needs
-
-returns : tie.Need-returns
-unfolding trailerSize
-returns c = search needs
+add-result c = record { fits = omega (arith, c .size .ensures, size-bounds (c .before .args .form)) }
 
 pub distance-back-spec : {M : Type 1} → statement M
-distance-back-spec = tie.close (tie.spec mul-result add-result returns)
+distance-back-spec = tie.close (tie.spec (λ c. search needs) (λ c κs. search needs) add-result (λ c. search needs))

@@ -1,14 +1,12 @@
 -- `yurdelmiz::answers::write_counts` meets its contract. Assumes nothing.
-use mathlib.Core.Path.{_∙_}
 use Rattle.yurdelmiz.specs.Answers.{countsBytes}
-use Rattle.yurdelmiz.proofs.Stores.{words-fill}
 use borrow.Author.Needs.{needs}
 use Rattle.yurdelmiz.proofs.answers.write_counts.Statement.{statement}
 use Rattle.yurdelmiz.proofs.answers.write_counts.Tie as tie
 
 returns : tie.Need-returns
 unfolding countsBytes
-returns c = c .before .before .write-words .ensures ∙ words-fill _ _ (c .before .before .before .before .before .before .pre)
+returns c = c .before .before .write-words .ensures
 
 pub write-counts-spec : {M : Type 1} → statement M
 write-counts-spec = tie.close (tie.spec (λ c. search needs) (λ c κs. search needs) (λ c. search needs) returns)
