@@ -12,15 +12,6 @@ returns : tie.Need-returns
 returns c =
     subst (AnomalyAt _ _) (circle _ _ (c .if1 .taken)) (anomaly-at _ _ (c .before .pre) (search needs))
 
-guess-requires : tie.Need-guess-requires
-guess-requires c κs = search needs
-
-equation-requires : tie.Need-equation-requires
-equation-requires c κs = search needs
-
-of-guess-requires : tie.Need-of-guess-requires
-of-guess-requires c κs = search needs
-
 halve-requires : tie.Need-halve-requires
 halve-requires c κs =
     let d = c .of-guess .ensures in
@@ -30,9 +21,6 @@ cast-angle : tie.Need-cast-angle
 cast-angle c =
     let i = halved-turn _ _ _ _ (c .before .of-guess .ensures) _ (c .halve .ensures) in
     record { fits = lower-end-below _ _ _ (c .before .before .before .before .if1 .left) i (search needs) }
-
-cast-t13 : tie.Need-cast-t13
-cast-t13 c = search needs
 
 returns-2 : tie.Need-returns-2
 returns-2 c =
@@ -44,10 +32,10 @@ eccentric-anomaly-spec =
     tie.close
     (tie.spec
     returns
-    guess-requires
-    equation-requires
-    of-guess-requires
+    (λ c κs. search needs)
+    (λ c κs. search needs)
+    (λ c κs. search needs)
     halve-requires
     cast-angle
-    cast-t13
+    (λ c. search needs)
     returns-2)

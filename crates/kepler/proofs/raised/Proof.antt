@@ -5,21 +5,6 @@ use Rattle.kepler.proofs.Recursion.{raised-up, kept, inside, outside}
 use Rattle.kepler.proofs.raised.Statement.{statement}
 use Rattle.kepler.proofs.raised.Tie as tie
 
-add-wrapping-sub-u64 : tie.Need-add-wrapping-sub-u64
-add-wrapping-sub-u64 c = search needs
-
-wrapping-sub-u64-requires : tie.Need-wrapping-sub-u64-requires
-wrapping-sub-u64-requires c κs = search needs
-
-sub-if1 : tie.Need-sub-if1
-sub-if1 c = search needs
-
-sub-if1-2 : tie.Need-sub-if1-2
-sub-if1-2 c = search needs
-
-equation-requires : tie.Need-equation-requires
-equation-requires c κs = search needs
-
 returns : tie.Need-returns
 returns c =
     let d = c .before .before .before .before .pre .1 in
@@ -38,11 +23,11 @@ pub raised-spec : {M : Type 1} → statement M
 raised-spec =
     tie.close
     (tie.spec
-    add-wrapping-sub-u64
-    wrapping-sub-u64-requires
-    sub-if1
-    sub-if1-2
-    equation-requires
+    (λ c. search needs)
+    (λ c κs. search needs)
+    (λ c. search needs)
+    (λ c. search needs)
+    (λ c κs. search needs)
     returns
     returns-2
     returns-3)

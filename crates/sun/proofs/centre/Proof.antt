@@ -16,17 +16,8 @@ use Rattle.sun.proofs.Bounds.{centre-within, centre-at}
 use Rattle.sun.proofs.centre.Statement.{statement}
 use Rattle.sun.proofs.centre.Tie as tie
 
-wrapping-add-u32-requires : tie.Need-wrapping-add-u32-requires
-wrapping-add-u32-requires c κs = search needs
-
-sine-requires : tie.Need-sine-requires
-sine-requires c κs = search needs
-
 scaled-requires : tie.Need-scaled-requires
 scaled-requires c κs = let s = c .sine .ensures .small in rw (read-within s tt) (within-mul (within-pos {a = 2 ^ 32} (lit≤ tt)) s)
-
-sine-requires-2 : tie.Need-sine-requires-2
-sine-requires-2 c κs = search needs
 
 scaled-requires-2 : tie.Need-scaled-requires-2
 scaled-requires-2 c κs = let s = c .sine2 .ensures .small in rw (read-within s tt) (within-mul (within-pos {a = 2 ^ 32} (lit≤ tt)) s)
@@ -59,10 +50,10 @@ pub centre-spec : {M : Type 1} → statement M
 centre-spec =
     tie.close
     (tie.spec
-    wrapping-add-u32-requires
-    sine-requires
+    (λ c κs. search needs)
+    (λ c κs. search needs)
     scaled-requires
-    sine-requires-2
+    (λ c κs. search needs)
     scaled-requires-2
     add-result
     returns)

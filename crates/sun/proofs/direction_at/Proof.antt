@@ -12,12 +12,6 @@ use Rattle.sun.proofs.Bounds.{direction-at}
 use Rattle.sun.proofs.direction_at.Statement.{statement}
 use Rattle.sun.proofs.direction_at.Tie as tie
 
-sine-requires : tie.Need-sine-requires
-sine-requires c κs = search needs
-
-cosine-requires : tie.Need-cosine-requires
-cosine-requires c κs = search needs
-
 scaled-requires : tie.Need-scaled-requires
 scaled-requires c κs = let s = c .before .sine .ensures .small in rw (read-within s tt) (within-mul s (within-pos {a = 2 ^ 32} (lit≤ tt)))
 
@@ -42,4 +36,4 @@ returns c =
 
 pub direction-at-spec : {M : Type 1} → statement M
 direction-at-spec =
-    tie.close (tie.spec sine-requires cosine-requires scaled-requires scaled-requires-2 returns)
+    tie.close (tie.spec (λ c κs. search needs) (λ c κs. search needs) scaled-requires scaled-requires-2 returns)

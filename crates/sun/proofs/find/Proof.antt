@@ -10,9 +10,6 @@ use Rattle.sun.proofs.find.Tie as tie
 in-range-is : (c : tie.After-in-range) → c .in-range .result ≡ inRange (c .before .args .time)
 in-range-is c = rw (toZ-ofZ (c .before .fits .time)) at (c .in-range .ensures)
 
-in-range-requires : tie.Need-in-range-requires
-in-range-requires c κs = search needs
-
 sun-at-requires : tie.Need-sun-at-requires
 sun-at-requires c κs =
     rw (toZ-ofZ (c .before .before .fits .time)) (sym (in-range-is (c .before)) ∙ c .if1 .taken)
@@ -32,4 +29,5 @@ returns-2 c =
     record { is = rw e; small = tt }
 
 pub find-spec : {M : Type 1} → statement M
-find-spec = tie.close (tie.spec in-range-requires sun-at-requires returns returns-2)
+find-spec =
+    tie.close (tie.spec (λ c κs. search needs) sun-at-requires returns returns-2)

@@ -1,6 +1,6 @@
 -- `sun::hour_angle` meets its contract. Assumes nothing.
 use borrow.Author.Needs.{needs}
-use mathlib.Core.Path.{_≡_, _∙_}
+use mathlib.Core.Path.{_≡_}
 use Prim.Native.Nat.{ℕ, suc, _+_, _-_, _%_, _^_, _<_}
 use native.Mathlib.Omega.{arith}
 use lib.Dec.{ltb, ltb→lt, nltb→le}
@@ -24,15 +24,6 @@ half-turn ml part h k =
     (λ u. let d = ltb→lt part short u in omega arith) (λ u. let d = nltb→le part short u in omega arith))
     (λ t. let b = nltb→le ml (2 ^ 31) t in omega arith)
 
-wrapping-add-u32-requires : tie.Need-wrapping-add-u32-requires
-wrapping-add-u32-requires c κs = search needs
-
-part-turn-requires : tie.Need-part-turn-requires
-part-turn-requires c κs = search needs
-
-wrapping-add-u32-requires-2 : tie.Need-wrapping-add-u32-requires-2
-wrapping-add-u32-requires-2 c κs = search needs
-
 returns : tie.Need-returns
 unfolding hourAngle
 returns c =
@@ -44,5 +35,4 @@ returns c =
 
 pub hour-angle-spec : {M : Type 1} → statement M
 hour-angle-spec =
-    tie.close
-    (tie.spec wrapping-add-u32-requires part-turn-requires wrapping-add-u32-requires-2 returns)
+    tie.close (tie.spec (λ c κs. search needs) (λ c κs. search needs) (λ c κs. search needs) returns)

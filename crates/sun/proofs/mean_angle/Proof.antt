@@ -11,12 +11,6 @@ mul-part-turn c =
     let p = within-mul (within-pos {a = 3125} {n = 3125} (lit≤ tt)) (c .pre .0) in
     search (needs, sfits-within)
 
-part-turn-requires : tie.Need-part-turn-requires
-part-turn-requires c κs = search needs
-
-wrapping-add-u32-requires : tie.Need-wrapping-add-u32-requires
-wrapping-add-u32-requires c κs = search needs
-
 returns : tie.Need-returns
 returns c =
     let s = c .before .before in
@@ -26,4 +20,4 @@ returns c =
 
 pub mean-angle-spec : {M : Type 1} → statement M
 mean-angle-spec =
-    tie.close (tie.spec mul-part-turn part-turn-requires wrapping-add-u32-requires returns)
+    tie.close (tie.spec mul-part-turn (λ c κs. search needs) (λ c κs. search needs) returns)

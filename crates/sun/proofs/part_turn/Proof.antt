@@ -19,23 +19,11 @@ sizes c =
     let s = c .before in
     split-sizes _ _ (s .pre .0) (s .pre .1) (rw (rest-is c) (mod-below (s .args .n) (s .args .d) (s .pre .0)))
 
-floor-div-requires : tie.Need-floor-div-requires
-floor-div-requires c κs = search needs
-
 mul-scaled : tie.Need-mul-scaled
 mul-scaled c = omega (arith, sizes (c .before) .scaled)
 
-div-high : tie.Need-div-high
-div-high c = search needs
-
-rem-low : tie.Need-rem-low
-rem-low c = search needs
-
 mul-low : tie.Need-mul-low
 mul-low c = omega (arith, sizes (c .before) .low)
-
-div-low : tie.Need-div-low
-div-low c = search needs
 
 mul-result : tie.Need-mul-result
 mul-result c = omega (arith, sizes (c .before) .high)
@@ -56,12 +44,12 @@ pub part-turn-spec : {M : Type 1} → statement M
 part-turn-spec =
     tie.close
     (tie.spec
-    floor-div-requires
+    (λ c κs. search needs)
     mul-scaled
-    div-high
-    rem-low
+    (λ c. search needs)
+    (λ c. search needs)
     mul-low
-    div-low
+    (λ c. search needs)
     mul-result
     add-result
     cast-result

@@ -18,15 +18,6 @@ mean-angle-requires c κs = let h = time-within c in search needs
 mean-angle-requires-2 : tie.Need-mean-angle-requires-2
 mean-angle-requires-2 c κs = let h = time-within (c .before) in search needs
 
-true-longitude-requires : tie.Need-true-longitude-requires
-true-longitude-requires c κs = search needs
-
-hour-angle-requires : tie.Need-hour-angle-requires
-hour-angle-requires c κs = search needs
-
-direction-at-requires : tie.Need-direction-at-requires
-direction-at-requires c κs = search needs
-
 returns : tie.Need-returns
 unfolding meanAnomaly meanLongitude
 returns c =
@@ -44,7 +35,7 @@ sun-at-spec =
     (tie.spec
     mean-angle-requires
     mean-angle-requires-2
-    true-longitude-requires
-    hour-angle-requires
-    direction-at-requires
+    (λ c κs. search needs)
+    (λ c κs. search needs)
+    (λ c κs. search needs)
     returns)

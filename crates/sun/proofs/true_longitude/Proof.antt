@@ -8,20 +8,11 @@ use Rattle.sun.proofs.Bounds.{angle-within, read-angle}
 use Rattle.sun.proofs.true_longitude.Statement.{statement}
 use Rattle.sun.proofs.true_longitude.Tie as tie
 
-cast-wrapped : tie.Need-cast-wrapped
-cast-wrapped c = search needs
-
-centre-requires : tie.Need-centre-requires
-centre-requires c κs = search needs
-
 add-wrapped : tie.Need-add-wrapped
 add-wrapped c =
     let ml = c .before .args .mean-longitude in
     rw (read-angle ml (search needs), read-back (c .centre .result) (c .centre .ok))
     (sfits-within (within-add (angle-within ml (search needs)) (c .centre .ensures .small)) tt)
-
-wrapped-requires : tie.Need-wrapped-requires
-wrapped-requires c κs = search needs
 
 returns : tie.Need-returns
 unfolding trueLongitude
@@ -32,4 +23,4 @@ returns c =
 
 pub true-longitude-spec : {M : Type 1} → statement M
 true-longitude-spec =
-    tie.close (tie.spec cast-wrapped centre-requires add-wrapped wrapped-requires returns)
+    tie.close (tie.spec (λ c. search needs) (λ c κs. search needs) add-wrapped (λ c κs. search needs) returns)

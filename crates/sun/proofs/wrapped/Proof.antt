@@ -13,9 +13,6 @@ use Rattle.sun.proofs.wrapped.Tie as tie
 rest-is : (c : tie.After-floor-div) → c .floor-div .result .remainder ≡ modZ (c .before .args .angle) (2 ^ 32)
 rest-is c = rw (toZ-ofZ (c .before .fits .angle)) at (c .floor-div .ensures .remainder-is)
 
-floor-div-requires : tie.Need-floor-div-requires
-floor-div-requires c κs = search needs
-
 cast-result : tie.Need-cast-result
 cast-result c = omega (arith, rest-is (c .before), mod-below (c .before .before .args .angle) (2 ^ 32) (lit< tt))
 
@@ -23,4 +20,5 @@ returns : tie.Need-returns
 returns c = rest-is (c .before)
 
 pub wrapped-spec : {M : Type 1} → statement M
-wrapped-spec = tie.close (tie.spec floor-div-requires cast-result returns)
+wrapped-spec =
+    tie.close (tie.spec (λ c κs. search needs) cast-result returns)

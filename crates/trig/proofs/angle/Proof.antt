@@ -5,15 +5,10 @@ use Rattle.trig.specs.Angle.{angleOf}
 use Rattle.trig.proofs.angle.Statement.{statement}
 use Rattle.trig.proofs.angle.Tie as tie
 
-mul-turns : tie.Need-mul-turns
-mul-turns c = search needs
-
-cast-result : tie.Need-cast-result
-cast-result c = search needs
-
 returns : tie.Need-returns
 unfolding angleOf
 returns c = refl
 
 pub angle-spec : {M : Type 1} → statement M
-angle-spec = tie.close (tie.spec mul-turns cast-result returns)
+angle-spec =
+    tie.close (tie.spec (λ c. search needs) (λ c. search needs) returns)

@@ -11,9 +11,6 @@ use Rattle.trig.proofs.horner_step.Tie as tie
 mul-result : tie.Need-mul-result
 mul-result c = record { fits = omega (arith, mul-le-mul (c .pre .0) (c .pre .1)) }
 
-div-result : tie.Need-div-result
-div-result c = search needs
-
 sub-result : tie.Need-sub-result
 sub-result c = quotient-le (c .args .z) (c .args .v) (c .args .divisor) (c .pre .0) (c .pre .1) (c .pre .2)
 
@@ -22,4 +19,5 @@ unfolding hornerStep
 returns c = record { is = refl; small = omega arith }
 
 pub horner-step-spec : {M : Type 1} → statement M
-horner-step-spec = tie.close (tie.spec mul-result div-result sub-result returns)
+horner-step-spec =
+    tie.close (tie.spec mul-result (λ c. search needs) sub-result returns)

@@ -6,15 +6,6 @@ use Rattle.trig.proofs.Products.{quarter-sine-is}
 use Rattle.trig.proofs.quarter_sine.Statement.{statement}
 use Rattle.trig.proofs.quarter_sine.Tie as tie
 
-radians-requires : tie.Need-radians-requires
-radians-requires c κs = search needs
-
-square-requires : tie.Need-square-requires
-square-requires c κs = search needs
-
-series-requires : tie.Need-series-requires
-series-requires c κs = search needs
-
 mul-s : tie.Need-mul-s
 mul-s c = record { fits = omega (arith, mul-le-mul (c .before .before .radians .ensures .small) (c .series .ensures .small)) }
 
@@ -30,4 +21,11 @@ returns-2 c =
 
 pub quarter-sine-spec : {M : Type 1} → statement M
 quarter-sine-spec =
-    tie.close (tie.spec radians-requires square-requires series-requires mul-s returns returns-2)
+    tie.close
+    (tie.spec
+    (λ c κs. search needs)
+    (λ c κs. search needs)
+    (λ c κs. search needs)
+    mul-s
+    returns
+    returns-2)

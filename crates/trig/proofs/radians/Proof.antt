@@ -6,12 +6,10 @@ use Rattle.trig.specs.Sine.{radians}
 use Rattle.trig.proofs.radians.Statement.{statement}
 use Rattle.trig.proofs.radians.Tie as tie
 
-mul-result : tie.Need-mul-result
-mul-result c = search needs
-
 returns : tie.Need-returns
 unfolding radians
 returns c = record { is = refl; small = omega arith }
 
 pub radians-spec : {M : Type 1} → statement M
-radians-spec = tie.close (tie.spec mul-result returns)
+radians-spec =
+    tie.close (tie.spec (λ c. search needs) returns)

@@ -4,12 +4,6 @@ use Rattle.trig.proofs.Signs.{minus-fits, upper-sine, lower-sine}
 use Rattle.trig.proofs.sine.Statement.{statement}
 use Rattle.trig.proofs.sine.Tie as tie
 
-sine-magnitude-requires : tie.Need-sine-magnitude-requires
-sine-magnitude-requires c κs = search needs
-
-cast-magnitude : tie.Need-cast-magnitude
-cast-magnitude c = search needs
-
 sub-result : tie.Need-sub-result
 sub-result c = minus-fits _ _ (c .before .sine-magnitude .ensures)
 
@@ -21,4 +15,4 @@ returns-2 c = lower-sine _ _ (c .before .sine-magnitude .ensures) (c .if1 .left)
 
 pub sine-spec : {M : Type 1} → statement M
 sine-spec =
-    tie.close (tie.spec sine-magnitude-requires cast-magnitude sub-result returns returns-2)
+    tie.close (tie.spec (λ c κs. search needs) (λ c. search needs) sub-result returns returns-2)

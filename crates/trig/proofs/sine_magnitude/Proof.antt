@@ -5,15 +5,6 @@ use Rattle.trig.proofs.Signs.{magnitude-at}
 use Rattle.trig.proofs.sine_magnitude.Statement.{statement}
 use Rattle.trig.proofs.sine_magnitude.Tie as tie
 
-quarter-sine-requires : tie.Need-quarter-sine-requires
-quarter-sine-requires c κs = search needs
-
-sub-quarter-sine : tie.Need-sub-quarter-sine
-sub-quarter-sine c = search needs
-
-quarter-sine-requires-2 : tie.Need-quarter-sine-requires-2
-quarter-sine-requires-2 c κs = search needs
-
 returns : tie.Need-returns
 returns c = magnitude-at _ _ _ (search needs) (omega arith) (c .quarter-sine .ensures .is)
 
@@ -22,5 +13,4 @@ returns-2 c = magnitude-at _ _ _ (search needs) (omega arith) (c .quarter-sine2 
 
 pub sine-magnitude-spec : {M : Type 1} → statement M
 sine-magnitude-spec =
-    tie.close
-    (tie.spec quarter-sine-requires sub-quarter-sine quarter-sine-requires-2 returns returns-2)
+    tie.close (tie.spec (λ c κs. search needs) (λ c. search needs) (λ c κs. search needs) returns returns-2)

@@ -5,21 +5,6 @@ use Rattle.kepler.proofs.Decided.{reached}
 use Rattle.kepler.proofs.window.angles.Statement.{statement}
 use Rattle.kepler.proofs.window.angles.Tie as tie
 
-mul-less : tie.Need-mul-less
-mul-less c = search needs
-
-add-less : tie.Need-add-less
-add-less c = search needs
-
-mul-less-2 : tie.Need-mul-less-2
-mul-less-2 c = search needs
-
-less-requires : tie.Need-less-requires
-less-requires c κs = search needs
-
-div-result : tie.Need-div-result
-div-result c = search needs
-
 add-result : tie.Need-add-result
 add-result c =
     let s = c .before in
@@ -32,4 +17,12 @@ returns c =
 
 pub angles-spec : {M : Type 1} → statement M
 angles-spec =
-    tie.close (tie.spec mul-less add-less mul-less-2 less-requires div-result add-result returns)
+    tie.close
+    (tie.spec
+    (λ c. search needs)
+    (λ c. search needs)
+    (λ c. search needs)
+    (λ c κs. search needs)
+    (λ c. search needs)
+    add-result
+    returns)

@@ -6,9 +6,6 @@ use Rattle.position.proofs.Bounds.{box-more, box-turned-xy, box-turned-
 use Rattle.position.proofs.Position.celestial.Statement.{statement}
 use Rattle.position.proofs.Position.celestial.Tie as tie
 
-turn-xy-requires : tie.Need-turn-xy-requires
-turn-xy-requires c κs = search needs
-
 turn-yz-requires : tie.Need-turn-yz-requires
 turn-yz-requires c κs =
     let pre = c .before .pre in
@@ -32,4 +29,5 @@ returns c =
     }
 
 pub celestial-spec : {M : Type 1} → statement M
-celestial-spec = tie.close (tie.spec turn-xy-requires turn-yz-requires turn-xy-requires-2 returns)
+celestial-spec =
+    tie.close (tie.spec (λ c κs. search needs) turn-yz-requires turn-xy-requires-2 returns)

@@ -6,12 +6,6 @@ use Rattle.position.proofs.Components.{same-position, read-turned, turn
 use Rattle.position.proofs.Position.earth_fixed.Statement.{statement}
 use Rattle.position.proofs.Position.earth_fixed.Tie as tie
 
-of-requires : tie.Need-of-requires
-of-requires c κs = search needs
-
-turned-requires : tie.Need-turned-requires
-turned-requires c κs = search needs
-
 returns : tie.Need-returns
 returns c =
     let s = c .before .before .before .before .before .before in
@@ -20,4 +14,5 @@ returns c =
     same-position (t .1) (t .0) (read-within (s .pre .z-within) tt) ∙ turned-back (s .args .self) (s .args .ghaa)
 
 pub earth-fixed-spec : {M : Type 1} → statement M
-earth-fixed-spec = tie.close (tie.spec of-requires turned-requires returns)
+earth-fixed-spec =
+    tie.close (tie.spec (λ c κs. search needs) (λ c κs. search needs) returns)

@@ -5,9 +5,6 @@ use Rattle.position.proofs.Components.{same-position, read-turned}
 use Rattle.position.proofs.Position.turn_xy.Statement.{statement}
 use Rattle.position.proofs.Position.turn_xy.Tie as tie
 
-turned-requires : tie.Need-turned-requires
-turned-requires c κs = search needs
-
 returns : tie.Need-returns
 returns c =
     let pre = c .before .before .before .before .before .pre in
@@ -15,4 +12,5 @@ returns c =
     same-position (t .0) (t .1) (read-within (pre .0 .z-within) tt)
 
 pub turn-xy-spec : {M : Type 1} → statement M
-turn-xy-spec = tie.close (tie.spec turned-requires returns)
+turn-xy-spec =
+    tie.close (tie.spec (λ c κs. search needs) returns)

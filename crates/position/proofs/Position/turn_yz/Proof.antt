@@ -5,9 +5,6 @@ use Rattle.position.proofs.Components.{same-position, read-turned}
 use Rattle.position.proofs.Position.turn_yz.Statement.{statement}
 use Rattle.position.proofs.Position.turn_yz.Tie as tie
 
-turned-requires : tie.Need-turned-requires
-turned-requires c κs = search needs
-
 returns : tie.Need-returns
 returns c =
     let pre = c .before .before .before .before .before .pre in
@@ -15,4 +12,5 @@ returns c =
     same-position (read-within (pre .0 .x-within) tt) (t .0) (t .1)
 
 pub turn-yz-spec : {M : Type 1} → statement M
-turn-yz-spec = tie.close (tie.spec turned-requires returns)
+turn-yz-spec =
+    tie.close (tie.spec (λ c κs. search needs) returns)
