@@ -1,5 +1,8 @@
 //! Elements files: what is read, and each fault with its line and the element that was due.
 
+mod common;
+
+use common::OSCAR_10;
 use yurdelmiz::{parse_elements, Element, Elements, Fault, Malformed};
 
 const TEXT: &str = "\
@@ -24,20 +27,7 @@ fn fault(text: &str) -> (Fault, u32, Option<Element>) {
 
 #[test]
 fn elements_are_those_of_the_file() {
-    let elements = Elements {
-        eccentricity: 6_100_000,
-        semi_major_axis: 26_100_000,
-        inclination: 305_419_896,
-        node: 1_445_972_322,
-        argument_of_perigee: 478_411_634,
-        mean_anomaly: 1_542_609_087,
-        mean_motion: 205_890_000,
-        node_rate: -1_724,
-        perigee_rate: 2_834,
-        epoch_revolution: 1_627,
-        epoch: -138_406_500,
-        half_mean_motion_derivative: -35,
-    };
+    let elements = Elements { half_mean_motion_derivative: -35, ..OSCAR_10 };
     assert_eq!(parse_elements(TEXT.as_bytes()), Ok(elements));
     let spaced = format!("# a remark\n\n{}\n# the end\n", TEXT.replace('\n', "\n\n"));
     assert_eq!(parse_elements(spaced.as_bytes()), Ok(elements));

@@ -1,24 +1,11 @@
 //! Refusals: their numbers and texts, those of the elements in their order, the limits of 16 and 8, the shades
 //! that 13 knows, and the bounds of the dark counts.
 
+mod common;
+
+use common::OSCAR_10;
 use yurdelmiz::{
     label_to_vec, position, read, Counts, Elements, Form, Label, Refusal, Refused, Sample,
-};
-
-/// Oscar-10, from source document 001.
-const OSCAR_10: Elements = Elements {
-    eccentricity: 6_100_000,
-    semi_major_axis: 26_100_000,
-    inclination: 305_419_896,
-    node: 1_445_972_322,
-    argument_of_perigee: 478_411_634,
-    mean_anomaly: 1_542_609_087,
-    mean_motion: 205_890_000,
-    node_rate: -1_724,
-    perigee_rate: 2_834,
-    epoch_revolution: 1_627,
-    epoch: -138_406_500,
-    half_mean_motion_derivative: 0,
 };
 
 fn changing(half_mean_motion_derivative: i32) -> Elements {
