@@ -225,12 +225,13 @@ uint64_t yurdelmiz_label(const uint8_t *elements, size_t elements_len,
 
 /* Adds telemetry to the label file in the first `size` bytes of `buffer`: the labels of its records
  * go over the file's trailer, be it one of 24 bytes or of 16, and the trailer of 24 bytes behind
- * them. What lies ahead of the first label and behind the trailer is unchanged. With the elements
- * that the file was labelled with, the bytes from the first label on are those of labelling all the
- * telemetry at once; adding no record gives a file its trailer of 24 bytes. Refusals 1 to 7, then 16,
- * for the elements, 8 for the epoch, at place 0; 12 and 13 of the file, as from yurdelmiz_read; 10 and
- * 11 on the labels of the file and the records together, at place 0; then 8 for each record in order,
- * at the place of its label in the whole file. `elements` and `telemetry` as above.
+ * them. What lies ahead of the first label and behind the trailer is unchanged, and so are the labels
+ * that the file has. Where these are what yurdelmiz_label gives with the same elements, the bytes from
+ * the first label on are those of labelling all the telemetry at once. Adding no record gives a file
+ * its trailer of 24 bytes. Refusals 1 to 7, then 16, for the elements, 8 for the epoch, at place 0; 12
+ * and 13 of the file, as from yurdelmiz_read; 10 and 11 on the labels of the file and the records
+ * together, at place 0; then 8 for each record in order, at the place of its label in the whole file.
+ * `elements` and `telemetry` as above.
  *
  *   answer, 28 bytes:
  *     0  u64  the file's bytes in `buffer`, as `size` before
