@@ -50,7 +50,8 @@ enum {
     YURDELMIZ_TELEMETRY_LENGTH = 10,
     /* From the first label on, output or buffer shorter than 24 bytes a label plus 24. */
     YURDELMIZ_OUTPUT_LENGTH = 11,
-    /* Label file: fewer than 16 bytes, a length beyond the buffer, or a trailer that does not fit. */
+    /* Label file: fewer than 16 bytes, a length beyond the buffer, a trailer that does not fit, or a tail
+     * of another number of bytes. */
     YURDELMIZ_TRAILER = 12,
     /* Label file: a label breaks a field rule, or the counts are not those of the labels. */
     YURDELMIZ_LABELS = 13,
@@ -93,8 +94,16 @@ enum {
     YURDELMIZ_POSITION_BYTES = 68,
     YURDELMIZ_SHADE_BYTES = 1,
     YURDELMIZ_ADD_BYTES = 28,
-    YURDELMIZ_READ_BYTES = 24
+    YURDELMIZ_READ_BYTES = 24,
+    YURDELMIZ_DARK_TEST_BYTES = 4
 };
+
+/* The bytes of `tail` in yurdelmiz_dark_test, or all of the file where it has fewer. */
+enum { YURDELMIZ_TAIL_BYTES = 24 };
+
+/* Stands in the answer of yurdelmiz_dark_test for a figure that the trailer does not hold: no file has
+ * as many labels. */
+#define YURDELMIZ_NOT_HELD 0xffffffffu
 
 /* The parts of a result of 64 bits: the status; from yurdelmiz_label, yurdelmiz_add and yurdelmiz_read
  * the place of a refusal, which is the number of the record or label from 0, in yurdelmiz_add that of
@@ -263,6 +272,18 @@ uint64_t yurdelmiz_add(const uint8_t *elements, size_t elements_len,
  */
 uint64_t yurdelmiz_read(const uint8_t *file, size_t file_len, size_t size,
                         uint8_t *answer, size_t answer_len);
+
+/* The dark test labels of a label file of `size` bytes, from its last 24 bytes, or all of them where it
+ * has fewer. Refusal 12 in the cases of yurdelmiz_read, and where `tail_len` is another number. A file
+ * that yurdelmiz_read refuses with 12 is refused, and no other; of a file that it accepts, the answer is
+ * the count over all its labels, where its trailer has 24 bytes. The labels are not looked at: a file that
+ * yurdelmiz_read refuses with 13 is answered with what its trailer states.
+ *
+ *   answer, 4 bytes:
+ *     0  u32  dark test labels, 0 to 1,024; YURDELMIZ_NOT_HELD where the trailer has 16 bytes
+ */
+uint32_t yurdelmiz_dark_test(const uint8_t *tail, size_t tail_len, uint64_t size,
+                             uint8_t *answer, size_t answer_len);
 
 #ifdef __cplusplus
 }

@@ -6,6 +6,7 @@ pub mod Writing
 pub mod RoundTrip
 pub mod Accepted
 pub mod Ahead
+pub mod Tails
 pub mod ReaderOf16
 pub mod Appending
 pub mod FileLabels

@@ -3,6 +3,7 @@ pub mod Counts
 pub mod Trailer
 pub mod File
 pub mod Reading
+pub mod Tail
 pub mod Stored
 pub mod ReaderOf16
 pub mod Contract

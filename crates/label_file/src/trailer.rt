@@ -4,17 +4,15 @@ ghost use Prim.Native.Nat.{_+_, _≤_};
 ghost use lib.ListN.{length};
 ghost use lib.Seq.{sets};
 ghost use Rattle.label_file.specs.declared.Form.the-variants.{Bytes24};
-ghost use Rattle.label_file.specs.Trailer.{trailerSize, distanceBack, formOf, statedCounts, trailerBytes, countsAllowed, trailerAllowed};
+ghost use Rattle.label_file.specs.Trailer.{trailerSize, distanceBack, formOf, statedCounts, trailerBytes, countsAllowed, trailerAllowed, distanceIn, trailerAt};
 use crate::Counts;
 use crate::Form;
 use crate::MOST_LABELS;
+use crate::TrailerReading;
 
 const SIZE_16: usize = 16;
 
 const SIZE_24: usize = 24;
-
-// No file has fewer bytes.
-pub(crate) const SHORTEST: usize = SIZE_16;
 
 pub(crate) const LONGEST: usize = SIZE_24;
 
@@ -30,7 +28,7 @@ impl Form {
 }
 
 // The form that a distance tells.
-pub(crate) fn form_of(distance: u32) -> Form
+fn form_of(distance: u32) -> Form
     ensures { λ r. ⌜ r ≡ formOf distance ⌝ }
 {
     if distance as usize % label::SIZE == 0 {
@@ -65,7 +63,7 @@ fn counts_allowed(stated: Counts) -> bool
     stated.dark_test <= stated.dark
 }
 
-pub(crate) fn allowed(form: Form, stated: Counts, distance: u32, size: usize) -> bool
+fn allowed(form: Form, stated: Counts, distance: u32, size: u64) -> bool
     ensures { λ r. ⌜ r ≡ trailerAllowed form stated distance size ⌝ }
 {
     if MOST_LABELS < stated.labels {
@@ -74,14 +72,14 @@ pub(crate) fn allowed(form: Form, stated: Counts, distance: u32, size: usize) ->
     if distance as usize != distance_back(form, stated.labels) {
         return false;
     }
-    if size < distance as usize {
+    if size < distance as u64 {
         return false;
     }
     counts_allowed(stated)
 }
 
 // The counts in the bytes of a trailer, which its reader has found at the end of a file.
-pub(crate) fn read_counts(form: Form, bytes: &[u8]) -> Counts
+fn read_counts(form: Form, bytes: &[u8]) -> Counts
     requires { ⌜ trailerSize form ≤ length (now bytes) ⌝ }
     ensures { λ r. ⌜ r ≡ statedCounts form (now (bytes .entry)) ⌝ }
 {
@@ -103,6 +101,38 @@ pub(crate) fn read_counts(form: Form, bytes: &[u8]) -> Counts
             dark: endian::read_u32(bytes, 12),
             dark_test: endian::read_u32(bytes, 16),
         },
+    }
+}
+
+// The distance in the last four bytes, where there are as many.
+fn find_distance(last: &[u8]) -> u32
+    requires { ⌜ 4 ≤ length (now last) ⌝ }
+    ensures { λ r. ⌜ r ≡ distanceIn (now (last .entry)) ⌝ }
+{
+    let at = last.len() - 4;
+    endian::read_u32(&last[at..], 0)
+}
+
+// The trailer at the end of some last bytes of a file of `size` bytes.
+pub(crate) fn find(last: &[u8], size: u64) -> TrailerReading
+    ensures { λ r. ⌜ r ≡ trailerAt (now (last .entry)) size ⌝ }
+{
+    let given = last.len();
+    if given < SIZE_16 {
+        return TrailerReading::Refused;
+    }
+    let distance = find_distance(last);
+    let form = form_of(distance);
+    let own = form.size();
+    if given < own {
+        return TrailerReading::Refused;
+    }
+    let at = given - own;
+    let stated = read_counts(form, &last[at..]);
+    if allowed(form, stated, distance, size) {
+        TrailerReading::Allowed(form, stated)
+    } else {
+        TrailerReading::Refused
     }
 }
 

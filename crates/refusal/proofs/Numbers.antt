@@ -1,6 +1,8 @@
 -- Laws of the refusals' numbers. Assumes nothing.
-use mathlib.Core.Path.{_≡_}
-use Prim.Native.Nat.{_≤_}
+use mathlib.Core.Path.{_≡_, refl, sym, ap, _∙_}
+use mathlib.Core.Bool.{cond}
+use Prim.Native.Nat.{ℕ, _≤_}
+use lib.Dec.{eqb}
 use native.Mathlib.Omega.{arith}
 use Rattle.refusal.specs.Numbers.{numberOf}
 use Rattle.refusal.specs.declared.Refusal.{Refusal}
@@ -29,3 +31,40 @@ never-0 r = numbers r .0
 -- 9 is not used
 pub never-9 : (r : Refusal) → numberOf r ≡ 9 → ⊥
 never-9 r = numbers r .1
+
+named : ℕ → Refusal
+named n =
+    cond (eqb n 1) Eccentricity
+    (cond (eqb n 2) SemiMajorAxis
+    (cond (eqb n 3) PerigeeDistance
+    (cond (eqb n 4) Inclination
+    (cond (eqb n 5) MeanMotion
+    (cond (eqb n 6) DriftRate
+    (cond (eqb n 7) EpochRevolution
+    (cond (eqb n 8) Time
+    (cond (eqb n 10) TelemetryLength
+    (cond (eqb n 11) OutputLength
+    (cond (eqb n 12) Trailer
+    (cond (eqb n 13) Labels
+    (cond (eqb n 14) Component MeanMotionDerivative))))))))))))
+
+named-is : (r : Refusal) → named (numberOf r) ≡ r
+unfolding named
+named-is Eccentricity = refl
+named-is SemiMajorAxis = refl
+named-is PerigeeDistance = refl
+named-is Inclination = refl
+named-is MeanMotion = refl
+named-is DriftRate = refl
+named-is EpochRevolution = refl
+named-is Time = refl
+named-is TelemetryLength = refl
+named-is OutputLength = refl
+named-is Trailer = refl
+named-is Labels = refl
+named-is Component = refl
+named-is MeanMotionDerivative = refl
+
+-- no two refusals have one number
+pub one-each : (r s : Refusal) → numberOf r ≡ numberOf s → r ≡ s
+one-each r s e = sym (named-is r) ∙ ap named e ∙ named-is s

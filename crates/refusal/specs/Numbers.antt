@@ -23,9 +23,9 @@ numberOf Time = 8
 -- 9 is not used, and not to be used again (law `never-9`)
 -- telemetry length no multiple of 16, or over 1,024 records
 numberOf TelemetryLength = 10
--- output shorter than 24 a record plus 16
+-- output shorter than 24 a record plus 24, or a buffer too short to add to
 numberOf OutputLength = 11
--- a label file's length, or its trailer's numbers
+-- a label file's length, its trailer's numbers, or a tail of another number of bytes
 numberOf Trailer = 12
 -- a label's field rules, or the trailer's counts
 numberOf Labels = 13

@@ -8,6 +8,8 @@ use borrow.Author.Tests.{eq-eqb, leb-true, leb-false}
 use lib.Dec.{lit≤, leb, eqb}
 use lib.IntN.{ℤ}
 use lib.ListN.{length}
+use Rattle.endian.specs.LittleEndian.{le4}
+use Rattle.endian.proofs.RoundTrip.{back4}
 use Rattle.refusal.proofs.Numbers.{never-0}
 use Rattle.kepler.specs.Contract.{AnomalyAt}
 use Rattle.kepler.specs.Solution.{solution}
@@ -29,17 +31,21 @@ use Rattle.elements_file.specs.declared.Parsed.the-variants as parsed
 use Rattle.elements_file.proofs.Consistency.{parsed-in-bounds}
 use Rattle.label_file.specs.declared.Counts.{Counts}
 use Rattle.label_file.specs.declared.Form.the-variants.{Bytes24}
+use Rattle.label_file.specs.declared.TailReading.{TailReading}
+use Rattle.label_file.specs.declared.TailReading.the-variants as tail
+use Rattle.label_file.specs.Tail.{tailReading}
+use Rattle.label_file.proofs.Tails.{held-few}
 use Rattle.labelling.specs.Adding.{adding, bufferAfter}
 use Rattle.labelling.specs.Day.{labelling, outputAfter}
 use Rattle.labelling.specs.declared.Labelling.{Labelling}
 use Rattle.labelling.specs.declared.Labelling.the-variants as labelling
 use Rattle.labelling.proofs.AddedFile.{added-buffer-accepted}
 use Rattle.labelling.proofs.WrittenFile.{written-buffer-accepted}
-use Rattle.yurdelmiz.specs.Answers.{anomalyBytes, stateBytes, elementsBytes, readBytes, addBytes}
+use Rattle.yurdelmiz.specs.Answers.{anomalyBytes, stateBytes, elementsBytes, readBytes, addBytes, notHeld}
 use Rattle.yurdelmiz.specs.Buffers.{elementsOf}
 use Rattle.yurdelmiz.specs.Faults.{faultNumber, faultPlace}
 use Rattle.yurdelmiz.specs.Call.{Call, Outcome, refused, given, callOf, statusAt}
-use Rattle.yurdelmiz.specs.Calls.{anomalyOutcome, keplerCall, earthFixedAt, stateOutcome, positionCall, elementsOutcome, elementsCall, dayOutcome, labelCall, labelOutcome, AddCall, addCall, readOutcome, readCall}
+use Rattle.yurdelmiz.specs.Calls.{anomalyOutcome, keplerCall, earthFixedAt, stateOutcome, positionCall, elementsOutcome, elementsCall, dayOutcome, labelCall, labelOutcome, AddCall, addCall, readOutcome, readCall, darkTestOutcome, darkTestCall}
 use Rattle.yurdelmiz.proofs.Additions.{by-answer, bad-lengths}
 use Rattle.yurdelmiz.proofs.Elements.{elements-back}
 use Rattle.yurdelmiz.proofs.Endings.{ends-refused, ends-given}
@@ -208,3 +214,23 @@ module _ (elements buffer : List ℕ) (size : ℕ) (telemetry answer : List ℕ)
 
   pub add-accepted : addCall elements buffer size telemetry answer .status ≡ 0 → AddAnswer elements buffer size telemetry answer
   add-accepted s = by-lengths lengths refl s
+
+-- ---- yurdelmiz_dark_test
+
+-- the number in the answer is the one that the trailer states, at most 1,024; or the one that stands for a figure not held
+abbrev pub Told : TailReading → ℕ → Type 0
+Told (tail.Refused refusal) figure = ⊥
+Told tail.NotHeld figure = figure ≡ notHeld
+Told (tail.Held labels) figure = (figure ≡ labels) × (labels ≤ 1_024)
+
+pub dark-test-accepted : (bytes : List ℕ) (size : ℕ) (buffer : List ℕ) → darkTestCall bytes size buffer .status ≡ 0
+    → Told (tailReading bytes size) (le4 (darkTestCall bytes size buffer .answer) 0)
+unfolding darkTestCall notHeld
+dark-test-accepted bytes size buffer s = by _ (tailReading bytes size) refl (accepted _ _ buffer s)
+  where
+    by : (answer : List ℕ) (r : TailReading) → tailReading bytes size ≡ r → Ending (darkTestOutcome r) answer → Told r (le4 answer 0)
+    by answer (tail.Refused refusal) e g = absurd (omega (arith, never-0 refusal))
+    by answer tail.NotHeld e g = ap (λ (l : List ℕ). le4 l 0) g ∙ back4 notHeld (omega arith)
+    by answer (tail.Held labels) e g =
+        let few = held-few bytes size labels e in
+        (ap (λ (l : List ℕ). le4 l 0) g ∙ back4 labels (omega (arith, few)), few)

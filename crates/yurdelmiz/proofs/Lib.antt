@@ -5,3 +5,4 @@ pub mod Days
 pub mod Additions
 pub mod Elements
 pub mod AcceptedCalls
+pub mod TailCalls

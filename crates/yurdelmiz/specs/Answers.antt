@@ -1,5 +1,5 @@
 -- The bytes of answers: include/yurdelmiz.h. Assumes nothing.
-use Prim.Native.Nat.{ℕ}
+use Prim.Native.Nat.{ℕ, _-_, _^_}
 use mathlib.Core.List.{List, [], _∷_, _++_}
 use lib.IntN.{natAbs}
 use mir.Syntax.{w32, w64}
@@ -74,6 +74,10 @@ countsBytes c = words (c .labels ∷ c .training ∷ c .test ∷ c .dark ∷ c .
 -- 24 bytes: the counts, and the bytes of the file's trailer
 unfoldable pub readBytes : Form → Counts → List ℕ
 readBytes form c = countsBytes c ++ bytes4 (trailerSize form)
+
+-- in place of a figure that a file's trailer does not hold
+unfoldable pub notHeld : ℕ
+notHeld = 2 ^ 32 - 1
 
 -- 28 bytes: where the file ends, and the counts
 unfoldable pub addBytes : Counts → ℕ → List ℕ

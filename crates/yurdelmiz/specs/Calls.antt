@@ -26,14 +26,18 @@ use Rattle.shade.specs.Codes.{shadeCode}
 use Rattle.eclipse.specs.Shade.{shadeAnswer}
 use Rattle.eclipse.specs.declared.ShadeAnswer.{ShadeAnswer}
 use Rattle.eclipse.specs.declared.ShadeAnswer.the-variants as shade
+use Rattle.endian.specs.LittleEndian.{bytes4}
 use Rattle.label_file.specs.Reading.{bufferReading}
+use Rattle.label_file.specs.Tail.{tailReading}
 use Rattle.label_file.specs.declared.FileReading.{FileReading}
 use Rattle.label_file.specs.declared.FileReading.the-variants as reading
+use Rattle.label_file.specs.declared.TailReading.{TailReading}
+use Rattle.label_file.specs.declared.TailReading.the-variants as tail
 use Rattle.labelling.specs.Adding.{adding, bufferAfter}
 use Rattle.labelling.specs.Day.{labelling, outputAfter}
 use Rattle.labelling.specs.declared.Labelling.{Labelling}
 use Rattle.labelling.specs.declared.Labelling.the-variants as labelling
-use Rattle.yurdelmiz.specs.Answers.{anomalyBytes, sunBytes, stateBytes, elementsBytes, readBytes, addBytes}
+use Rattle.yurdelmiz.specs.Answers.{anomalyBytes, sunBytes, stateBytes, elementsBytes, readBytes, addBytes, notHeld}
 use Rattle.yurdelmiz.specs.Buffers.{elementsOf}
 use Rattle.yurdelmiz.specs.Faults.{faultNumber, faultPlace}
 use Rattle.yurdelmiz.specs.Call.{Call, Outcome, refused, given, callOf, statusAt}
@@ -124,3 +128,12 @@ readOutcome (reading.Accepted form counts) = given (readBytes form counts)
 
 unfoldable pub readCall : List ℕ → ℕ → List ℕ → Call
 readCall file size buffer = callOf (eqb (length buffer) 24) (readOutcome (bufferReading file size)) buffer
+
+-- ---- yurdelmiz_dark_test
+abbrev pub darkTestOutcome : TailReading → Outcome
+darkTestOutcome (tail.Refused refusal) = refused (numberOf refusal)
+darkTestOutcome tail.NotHeld = given (bytes4 notHeld)
+darkTestOutcome (tail.Held labels) = given (bytes4 labels)
+
+unfoldable pub darkTestCall : List ℕ → ℕ → List ℕ → Call
+darkTestCall tail size buffer = callOf (eqb (length buffer) 4) (darkTestOutcome (tailReading tail size)) buffer

@@ -3,3 +3,4 @@ pub mod Answers
 pub mod Faults
 pub mod Call
 pub mod Calls
+pub mod TailOfFile

@@ -7,6 +7,7 @@ ghost use lib.ListN.{length};
 ghost use lib.Seq.{sets};
 ghost use mir.Syntax.{w32};
 ghost use mir.Val.{ofZ};
+ghost use Rattle.endian.specs.LittleEndian.{bytes4};
 ghost use Rattle.integer.specs.Bound.{Within};
 ghost use Rattle.sun.specs.Contract.{WithinOne};
 ghost use Rattle.yurdelmiz.specs.Answers.{words, anomalyBytes, sunBytes, positionBytes, stateBytes, elementsBytes, countsBytes, readBytes, addBytes};
@@ -142,6 +143,16 @@ pub(crate) fn write_adding(answer: &mut [u8], counts: Counts, size: usize)
 {
     endian::write_u64(answer, 0, size as u64);
     write_counts(answer, 8, counts);
+}
+
+// In place of a figure that a file's trailer does not hold: no file has as many labels.
+pub(crate) const NOT_HELD: u32 = 0xffff_ffff;
+
+pub(crate) fn write_figure(answer: &mut [u8], figure: u32)
+    requires { ⌜ length (now answer) ≡ 4 ⌝ }
+    ensures { λ _. ⌜ now (answer .exit) ≡ bytes4 figure ⌝ }
+{
+    endian::write_u32(answer, 0, figure);
 }
 
 pub(crate) fn fault_number(fault: Fault) -> u32

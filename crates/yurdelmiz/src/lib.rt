@@ -2,11 +2,12 @@
 ghost use mathlib.Core.Path.{_≡_};
 ghost use Rattle.trig.specs.Contract.{CosineAt};
 ghost use Rattle.trig.specs.ExactSine.{SineAt};
-ghost use Rattle.yurdelmiz.specs.Calls.{keplerCall, sunCall, positionCall, shadeCall, elementsCall, labelCall, addCall, readCall};
+ghost use Rattle.yurdelmiz.specs.Calls.{keplerCall, sunCall, positionCall, shadeCall, elementsCall, labelCall, addCall, readCall, darkTestCall};
 use eclipse::ShadeAnswer;
 use elements_file::Parsed;
 use kepler::Solution;
 use label_file::FileReading;
+use label_file::TailReading;
 use labelling::Labelling;
 use orbit::Placement;
 use position::Position;
@@ -193,6 +194,27 @@ pub extern "C" fn yurdelmiz_read(file: &[u8], size: usize, answer: &mut [u8]) ->
         FileReading::Refused(refusal, place) => answers::status_at(refusal.number(), place),
         FileReading::Accepted(form, counts) => {
             answers::write_reading(answer, form, counts);
+            0
+        }
+    }
+}
+
+#[no_mangle]
+pub extern "C" fn yurdelmiz_dark_test(tail: &[u8], size: u64, answer: &mut [u8]) -> u32
+    ensures { λ r. ⌜ record { status = r; answer = now (answer .exit) } ≡ darkTestCall (now (tail .entry)) size (now (answer .entry)) ⌝ }
+{
+    if answer.len() != 4 {
+        return BAD_BUFFER;
+    }
+    let reading = label_file::read_tail(tail, size);
+    match reading {
+        TailReading::Refused(refusal) => refusal.number(),
+        TailReading::NotHeld => {
+            answers::write_figure(answer, answers::NOT_HELD);
+            0
+        }
+        TailReading::Held(labels) => {
+            answers::write_figure(answer, labels);
             0
         }
     }

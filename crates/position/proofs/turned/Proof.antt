@@ -6,30 +6,6 @@ use Rattle.position.proofs.Bounds.{turn-sizes}
 use Rattle.position.proofs.turned.Statement.{statement}
 use Rattle.position.proofs.turned.Tie as tie
 
-mul-first : tie.Need-mul-first
-mul-first c = let z = turn-sizes (c .before .before .pre) in search (needs, sfits-within)
-
-mul-first-2 : tie.Need-mul-first-2
-mul-first-2 c = let z = turn-sizes (c .before .before .pre) in search (needs, sfits-within)
-
-sub-first : tie.Need-sub-first
-sub-first c = let z = turn-sizes (c .before .before .pre) in search (needs, sfits-within)
-
-div-first : tie.Need-div-first
-div-first c = let z = turn-sizes (c .before .before .pre) in search (needs, sfits-within)
-
-mul-second : tie.Need-mul-second
-mul-second c = let z = turn-sizes (c .before .before .pre) in search (needs, sfits-within)
-
-mul-second-2 : tie.Need-mul-second-2
-mul-second-2 c = let z = turn-sizes (c .before .before .pre) in search (needs, sfits-within)
-
-add-second : tie.Need-add-second
-add-second c = let z = turn-sizes (c .before .before .pre) in search (needs, sfits-within)
-
-div-second : tie.Need-div-second
-div-second c = let z = turn-sizes (c .before .before .pre) in search (needs, sfits-within)
-
 returns : tie.Need-returns
 unfolding turnedFirst turnedSecond
 returns c =
@@ -44,12 +20,12 @@ pub turned-spec : {M : Type 1} → statement M
 turned-spec =
     tie.close
     (tie.spec
-    mul-first
-    mul-first-2
-    sub-first
-    div-first
-    mul-second
-    mul-second-2
-    add-second
-    div-second
+    (λ c. let z = turn-sizes (c .before .before .pre) in search (needs, sfits-within))
+    (λ c. let z = turn-sizes (c .before .before .pre) in search (needs, sfits-within))
+    (λ c. let z = turn-sizes (c .before .before .pre) in search (needs, sfits-within))
+    (λ c. let z = turn-sizes (c .before .before .pre) in search (needs, sfits-within))
+    (λ c. let z = turn-sizes (c .before .before .pre) in search (needs, sfits-within))
+    (λ c. let z = turn-sizes (c .before .before .pre) in search (needs, sfits-within))
+    (λ c. let z = turn-sizes (c .before .before .pre) in search (needs, sfits-within))
+    (λ c. let z = turn-sizes (c .before .before .pre) in search (needs, sfits-within))
     returns)

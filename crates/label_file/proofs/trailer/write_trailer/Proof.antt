@@ -9,30 +9,6 @@ use Rattle.label_file.proofs.trailer.write_trailer.Tie as tie
 cast-distance : tie.Need-cast-distance
 cast-distance c = record { fits = rw (c .distance-back .ensures) (distance-fits _ _ (c .before .before .pre .1)) }
 
-write-u32-requires : tie.Need-write-u32-requires
-unfolding trailerSize
-write-u32-requires c κs = search needs
-
-write-u32-requires-2 : tie.Need-write-u32-requires-2
-unfolding trailerSize
-write-u32-requires-2 c κs = search needs
-
-write-u32-requires-3 : tie.Need-write-u32-requires-3
-unfolding trailerSize
-write-u32-requires-3 c κs = search needs
-
-write-u32-requires-4 : tie.Need-write-u32-requires-4
-unfolding trailerSize
-write-u32-requires-4 c κs = search needs
-
-write-u32-requires-5 : tie.Need-write-u32-requires-5
-unfolding trailerSize
-write-u32-requires-5 c κs = search needs
-
-write-u32-requires-6 : tie.Need-write-u32-requires-6
-unfolding trailerSize
-write-u32-requires-6 c κs = search needs
-
 returns : tie.Need-returns
 returns c =
     let w6 = c .before .before in
@@ -47,21 +23,22 @@ returns c =
     (w1 .write-u32 .ensures) (w2 .write-u322 .ensures) (w3 .write-u323 .ensures) (w4 .write-u324 .ensures) (w5 .write-u325 .ensures) (rw (d .distance-back .ensures) at (w6 .write-u326 .ensures))
 
 pub write-trailer-spec : {M : Type 1} → statement M
+unfolding trailerSize
 write-trailer-spec =
     tie.close
     (tie.spec
     (λ c κs. search needs)
     cast-distance
-    write-u32-requires
+    (λ c κs. search needs)
     (λ c. search needs)
-    write-u32-requires-2
+    (λ c κs. search needs)
     (λ c. search needs)
-    write-u32-requires-3
+    (λ c κs. search needs)
     (λ c. search needs)
-    write-u32-requires-4
+    (λ c κs. search needs)
     (λ c. search needs)
-    write-u32-requires-5
+    (λ c κs. search needs)
     (λ c. search needs)
-    write-u32-requires-6
+    (λ c κs. search needs)
     (λ c. search needs)
     returns)
