@@ -12,6 +12,7 @@ use std::hint::black_box;
 use std::time::{Duration, Instant};
 
 use reference::file::file_bytes;
+use reference::tail::TAIL_BYTES;
 
 /// How long one timing lasts, about.
 const TIMING: Duration = Duration::from_millis(20);
@@ -191,10 +192,16 @@ fn once(records: usize) {
     assert_eq!(files[0], files[1], "the two label files");
 }
 
-fn read(repeats: usize) -> Comparison {
+/// The longest day's file.
+fn longest_file() -> Vec<u8> {
     let mut file = vec![0; file_bytes(DAY_RECORDS)];
     reference::file::label_day(&ELEMENTS, &telemetry(DAY_RECORDS), &mut file)
         .expect("an accepted day");
+    file
+}
+
+fn read(repeats: usize) -> Comparison {
+    let file = longest_file();
     compare(
         repeats,
         &mut || {
@@ -204,6 +211,23 @@ fn read(repeats: usize) -> Comparison {
         &mut || {
             let read = reference::file::read(black_box(&file), file.len());
             black_box(read.expect("a sound file"));
+        },
+    )
+}
+
+/// The same file by its tail.
+fn dark_test(repeats: usize) -> Comparison {
+    let file = longest_file();
+    let (tail, size) = (&file[file.len() - TAIL_BYTES..], file.len() as u64);
+    compare(
+        repeats,
+        &mut || {
+            let figure = yurdelmiz::dark_test(black_box(tail), black_box(size));
+            black_box(figure.expect("a sound file"));
+        },
+        &mut || {
+            let figure = reference::tail::dark_test(black_box(tail), black_box(size));
+            black_box(figure.expect("a sound file"));
         },
     )
 }
@@ -320,6 +344,7 @@ fn main() {
     }
     print("the square root", &root(repeats));
     print("reading 1,024 labels", &read(repeats));
+    print("asking their tail", &dark_test(repeats));
     print("labelling 1,024 records", &label(repeats, DAY_RECORDS));
 
     println!("growth of labelling, a record: library, reference, library / reference");

@@ -12,8 +12,12 @@ pub struct Flag {
     pub value: Option<&'static str>,
 }
 
+/// Ends the name of an operand that is given once or more.
+const REPEATED: &str = "...";
+
 pub struct Command {
     pub name: &'static str,
+    /// The name of the last may end in [`REPEATED`].
     pub operands: &'static [&'static str],
     pub flags: &'static [Flag],
     /// Its first lines, up to an empty one, are the usage.
@@ -21,7 +25,7 @@ pub struct Command {
     pub run: fn(&Arguments) -> Result<(), Failure>,
 }
 
-/// As many operands as the command names, and the options given.
+/// As many operands as the command names, or more where its last is repeated, and the options given.
 #[derive(Debug, Default)]
 pub struct Arguments {
     operands: Vec<OsString>,
@@ -31,6 +35,11 @@ pub struct Arguments {
 impl Arguments {
     pub fn path(&self, number: usize) -> &Path {
         Path::new(&self.operands[number])
+    }
+
+    /// All operands.
+    pub fn paths(&self) -> impl Iterator<Item = &Path> {
+        self.operands.iter().map(Path::new)
     }
 
     pub fn has(&self, flag: &str) -> bool {
@@ -107,18 +116,27 @@ impl Command {
     fn counted(&self, arguments: Arguments) -> Result<Arguments, Failure> {
         let (given, due) = (&arguments.operands, self.operands);
         if given.len() < due.len() {
-            let missing = due[given.len()..].join(" and ");
-            let verb = if given.len() + 1 == due.len() { "is" } else { "are" };
+            let missing: Vec<&str> = (given.len()..due.len()).map(|at| self.operand(at)).collect();
+            let verb = if missing.len() == 1 { "is" } else { "are" };
+            let missing = missing.join(" and ");
             return Err(self.mistake(format!("{}: {missing} {verb} missing", self.name)));
         }
-        if let Some(extra) = given.get(due.len()) {
+        let repeated = due.last().is_some_and(|last| last.ends_with(REPEATED));
+        if let Some(extra) = given.get(due.len()).filter(|_| !repeated) {
             let extra = quote::word(&extra.to_string_lossy());
             return Err(self.mistake(format!("{}: {extra} is one word too many", self.name)));
         }
         if let Some(empty) = given.iter().position(|word| word.is_empty()) {
-            return Err(self.mistake(format!("{}: {} is empty", self.name, due[empty])));
+            let empty = self.operand(empty);
+            return Err(self.mistake(format!("{}: {empty} is empty", self.name)));
         }
         Ok(arguments)
+    }
+
+    /// What an operand is called; behind the last name, as that.
+    fn operand(&self, number: usize) -> &'static str {
+        let name = self.operands[number.min(self.operands.len() - 1)];
+        name.strip_suffix(REPEATED).unwrap_or(name)
     }
 }
 
@@ -166,15 +184,48 @@ fn distance(from: &str, to: &str) -> usize {
 mod tests {
     use super::*;
 
+    const MANY: Command = Command {
+        name: "many",
+        operands: &["ONE", "OTHER..."],
+        flags: &[Flag { name: "--flag", value: None }],
+        help: "usage: many [--flag] ONE OTHER...\n\nmore",
+        run: |_| Ok(()),
+    };
+
+    fn parsed(words: &[&str]) -> Result<Vec<OsString>, Failure> {
+        let words: Vec<OsString> = words.iter().map(OsString::from).collect();
+        let arguments = MANY.parse(&words)?.expect("no help is asked for");
+        Ok(arguments.paths().map(OsString::from).collect())
+    }
+
+    #[test]
+    fn a_repeated_operand() {
+        for words in [&["a", "b"][..], &["a", "b", "c"], &["a", "b", "b", "...", "a"]] {
+            assert_eq!(parsed(words).unwrap(), words);
+        }
+        assert_eq!(parsed(&["a", "--flag", "b", "--", "--flag"]).unwrap(), ["a", "b", "--flag"]);
+        for (words, told) in [
+            (&[][..], "ONE and OTHER are missing"),
+            (&["a"], "OTHER is missing"),
+            (&["", "b"], "ONE is empty"),
+            (&["a", ""], "OTHER is empty"),
+            (&["a", "b", "c", "", "d"], "OTHER is empty"),
+        ] {
+            let failure = format!("{:?}", parsed(words).unwrap_err());
+            assert!(failure.contains(&format!("\"many: {told}\\nusage: many ")), "{failure}");
+        }
+    }
+
     #[test]
     fn near_words() {
-        let names = ["label", "list", "plot", "help"];
+        let names = ["label", "list", "dark-test", "plot", "help"];
         for (word, near) in [
             ("lable", Some("label")),
             ("labels", Some("label")),
             ("lst", Some("list")),
             ("plt", Some("plot")),
             ("hlep", Some("help")),
+            ("darktest", Some("dark-test")),
             ("nonsense", None),
             ("x", None),
         ] {

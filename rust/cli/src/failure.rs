@@ -43,6 +43,11 @@ impl Failure {
         Failure { status: Status::Refused, message: what.to_string() }
     }
 
+    /// Files that could not be read, each told in a line of its own.
+    pub fn unread(what: impl Display) -> Failure {
+        Failure { status: Status::File, message: what.to_string() }
+    }
+
     pub fn standard_output(error: &io::Error) -> Failure {
         let message = match error.kind() {
             // Whoever read it has read enough.

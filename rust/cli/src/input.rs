@@ -1,10 +1,13 @@
 //! Files that are read, and of each no more is kept than can be of use.
 
-use std::fs::{self, File};
+use std::fs::{self, File, Metadata};
 use std::io::{self, Read, Seek, SeekFrom};
+use std::os::unix::fs::FileExt;
 use std::path::Path;
 
 use crate::failure::{words, Failure};
+
+const FOLDER: &str = "it is a folder: name a file";
 
 fn unread(path: &Path, why: impl std::fmt::Display) -> Failure {
     Failure::file(path, format!("cannot be read: {why}"))
@@ -13,7 +16,7 @@ fn unread(path: &Path, why: impl std::fmt::Display) -> Failure {
 fn open(path: &Path) -> Result<File, Failure> {
     let file = File::open(path).map_err(|error| unread(path, words(&error)))?;
     if fs::metadata(path).is_ok_and(|metadata| metadata.is_dir()) {
-        return Err(unread(path, "it is a folder: name a file"));
+        return Err(unread(path, FOLDER));
     }
     Ok(file)
 }
@@ -94,6 +97,38 @@ fn skip_to_end(file: &mut File, most: usize) -> io::Result<u64> {
     }
     let ahead = metadata.len().saturating_sub(most as u64);
     file.seek(SeekFrom::Start(ahead))
+}
+
+/// The last bytes of a regular file, as many as there is room for or all, and the file's length; or why they
+/// cannot be had. Nothing else of the file is read.
+pub fn read_tail<'a>(path: &Path, room: &'a mut [u8]) -> Result<(&'a [u8], u64), String> {
+    let told = |error: io::Error| words(&error);
+    // Before it is opened: a pipe would wait for its writer.
+    check_regular(&fs::metadata(path).map_err(told)?)?;
+    let file = File::open(path).map_err(told)?;
+    let metadata = file.metadata().map_err(told)?;
+    check_regular(&metadata)?;
+    let length = metadata.len();
+    let number = length.min(room.len() as u64);
+    let tail = &mut room[..number as usize];
+    match file.read_exact_at(tail, length - number) {
+        Ok(()) => Ok((tail, length)),
+        Err(error) if error.kind() == io::ErrorKind::UnexpectedEof => {
+            Err("it changed while it was read".to_owned())
+        }
+        Err(error) => Err(words(&error)),
+    }
+}
+
+/// That a file has a length.
+fn check_regular(metadata: &Metadata) -> Result<(), String> {
+    if metadata.is_dir() {
+        Err(FOLDER.to_owned())
+    } else if !metadata.is_file() {
+        Err("it is a device, a pipe or a socket, and has no length: name a file".to_owned())
+    } else {
+        Ok(())
+    }
 }
 
 /// Whether the start of some bytes could be text.

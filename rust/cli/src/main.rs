@@ -7,6 +7,7 @@
 
 mod add;
 mod arguments;
+mod dark_test;
 mod date;
 mod day_input;
 mod decimal;
@@ -39,7 +40,8 @@ use arguments::Command;
 use failure::Failure;
 
 /// The subcommands beside `help`.
-const COMMANDS: [&Command; 4] = [&label::COMMAND, &add::COMMAND, &list::COMMAND, &plot::COMMAND];
+const COMMANDS: [&Command; 5] =
+    [&label::COMMAND, &add::COMMAND, &list::COMMAND, &dark_test::COMMAND, &plot::COMMAND];
 
 fn run(words: &[OsString]) -> Result<(), Failure> {
     let Some((first, rest)) = words.split_first() else {

@@ -1,6 +1,7 @@
-//! Standard output: written whole and flushed, or the failure.
+//! Standard output: a text written whole and flushed, or many lines through a buffer; or the failure.
 
-use std::io::{self, Write};
+use std::fmt::Arguments;
+use std::io::{self, BufWriter, StdoutLock, Write};
 
 use crate::failure::Failure;
 
@@ -8,4 +9,22 @@ pub fn print(text: &str) -> Result<(), Failure> {
     let mut output = io::stdout().lock();
     let written = output.write_all(text.as_bytes()).and_then(|()| output.flush());
     written.map_err(|error| Failure::standard_output(&error))
+}
+
+/// Lines that are written as they come, a buffer of them at a time.
+pub struct Lines(BufWriter<StdoutLock<'static>>);
+
+impl Lines {
+    pub fn new() -> Lines {
+        Lines(BufWriter::new(io::stdout().lock()))
+    }
+
+    pub fn print(&mut self, line: Arguments) -> Result<(), Failure> {
+        self.0.write_fmt(line).map_err(|error| Failure::standard_output(&error))
+    }
+
+    /// Writes what is left in the buffer.
+    pub fn end(mut self) -> Result<(), Failure> {
+        self.0.flush().map_err(|error| Failure::standard_output(&error))
+    }
 }

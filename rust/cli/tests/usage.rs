@@ -44,6 +44,15 @@ fn mistakes() {
     mistake(&["list"], "list: LABELS is missing");
     mistake(&["list", "a", "b"], "list: 'b' is one word too many");
     mistake(&["list", "--csv", "--json", "a"], "list: --csv and --json are given together");
+    mistake(&["dark-test"], "dark-test: FILE is missing");
+    mistake(&["dark-test", "--"], "dark-test: FILE is missing");
+    mistake(&["dark-test", ""], "dark-test: FILE is empty");
+    mistake(&["dark-test", "elements", "none", ""], "dark-test: FILE is empty");
+    mistake(
+        &["dark-test", "elements", "--csv"],
+        "dark-test has no option '--csv': a file whose name begins with - stands after --",
+    );
+    mistake(&["dark_test", "a"], "there is no command 'dark_test': did you mean dark-test?");
     mistake(&["plot", "a"], "plot: OUT.svg is missing");
     mistake(&["plot", "a", "b.svg", "--satellite"], "--satellite is given without its NAME");
     mistake(&["help", "nonsense"], "there is no command 'nonsense'");
@@ -101,7 +110,7 @@ fn help() {
     for words in [&["--help"][..], &["-h"], &["help", "help"], &["help", "--help"]] {
         folder.run(words).is(0, &general.stdout);
     }
-    for name in ["label", "add", "list", "plot"] {
+    for name in ["label", "add", "list", "dark-test", "plot"] {
         let text = folder.run(["help", name]);
         text.fails(0);
         let usage = text.stdout.lines().next().unwrap();

@@ -12,6 +12,7 @@ use crate::label_files::{self, File};
 use crate::numbers::library_elements;
 use crate::random::Random;
 use crate::report::{Hex, Report};
+use crate::tails;
 
 /// Adds the parts of a day to each other, or a day to any file.
 pub fn adding(random: &mut Random, report: &mut Report) {
@@ -49,6 +50,7 @@ fn compare(
             let file = read(buffer, added.length);
             let stated = file.map(|file| (file.counts, file.form)).map_err(reference_refused);
             report.equal(&input, "counts", Ok((added.counts, Form::Bytes24)), stated);
+            tails::of_file(report, &buffer[..added.length]);
         }
     }
     library

@@ -9,6 +9,7 @@ use crate::inputs;
 use crate::numbers::library_elements;
 use crate::random::Random;
 use crate::report::Report;
+use crate::tails::tail_of;
 
 /// Bytes on both sides of an answer.
 const GUARD: usize = 16;
@@ -162,4 +163,17 @@ pub fn lent(random: &mut Random, report: &mut Report) {
     });
 
     label_with_bad_elements(random, report);
+
+    let file = empty_file(random);
+    let (tail, size) = (tail_of(&file), file.len() as u64);
+    check_answer(
+        random,
+        report,
+        "dark test",
+        ffi::DARK_TEST_BYTES,
+        true,
+        |answer, length| unsafe {
+            ffi::yurdelmiz_dark_test(tail.as_ptr(), tail.len(), size, answer, length)
+        },
+    );
 }

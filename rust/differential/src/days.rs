@@ -1,10 +1,14 @@
-//! Comparisons of labelled days, byte by byte.
+//! Comparisons of labelled days, byte by byte, and of their tails.
+
+use reference::file::file_bytes;
+use reference::telemetry::RECORD_BYTES;
 
 use crate::answers::{counts, library_refused, reference_refused};
 use crate::inputs;
 use crate::numbers::library_elements;
 use crate::random::Random;
 use crate::report::{Hex, Report};
+use crate::tails;
 
 pub fn label(random: &mut Random, report: &mut Report) {
     let (elements, telemetry) = match random.below(8) {
@@ -34,5 +38,9 @@ pub fn label(random: &mut Random, report: &mut Report) {
     report.bytes(&input, "telemetry", &lent, &telemetry);
     if refused {
         report.bytes(&input, "output after a refusal", &library_output, &before);
+    }
+    if library.is_ok() {
+        let records = telemetry.len() / RECORD_BYTES;
+        tails::of_file(report, &library_output[..file_bytes(records)]);
     }
 }

@@ -1,9 +1,10 @@
-//! Comparisons of reading: sound files and damaged ones.
+//! Comparisons of reading: sound files and damaged ones, and their tails.
 
 use crate::answers::{counts, form, library_refused, reference_refused};
 use crate::label_files;
 use crate::random::Random;
 use crate::report::{Hex, Report};
+use crate::tails;
 
 pub fn read(random: &mut Random, report: &mut Report) {
     let mut buffer = label_files::damaged(random);
@@ -18,4 +19,7 @@ pub fn read(random: &mut Random, report: &mut Report) {
     let input = (Hex(&buffer), length);
     report.outcomes(&input, library, reference);
     report.bytes(&input, "file", &lent, &buffer);
+    if let Some(file) = buffer.get(..length) {
+        tails::of_file(report, file);
+    }
 }

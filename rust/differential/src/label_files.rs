@@ -328,6 +328,48 @@ pub fn damaged(random: &mut Random) -> Vec<u8> {
     file.bytes
 }
 
+/// Labels that keep the field rules, of any sides and shades.
+fn any_labels(random: &mut Random, number: usize) -> Vec<u8> {
+    let mut labels = vec![0; number * LABEL_BYTES];
+    for label in labels.chunks_exact_mut(LABEL_BYTES) {
+        let revolution: i32 = random.pick(&[16, 17, 65]);
+        put(label, 8, &revolution.to_le_bytes());
+        label[SIDE] = Side::of_revolution(revolution) as u8;
+        label[SHADE] = random.below(3) as u8;
+    }
+    labels
+}
+
+/// A file that is quickly made, of which the trailer matters: sound, damaged in its trailer, or cut to about
+/// as much as that.
+pub fn any_trailer(random: &mut Random) -> Vec<u8> {
+    let labels = match random.below(32) {
+        0 => random.between(1_023, 1_026) as usize,
+        1..=4 => 0,
+        _ => random.index(24),
+    };
+    let labels = any_labels(random, labels);
+    let (form, ahead) = (random.pick(&Form::ALL), bytes_ahead(random));
+    let mut file = File::of(random, form, &labels, ahead);
+    match random.below(20) {
+        0..=6 => {}
+        7..=9 => damage_trailer(random, &mut file),
+        10..=14 => counts_at_bounds(random, &mut file),
+        15 => two_trailers(random, &mut file),
+        16 => recount(random, &mut file),
+        17 => overflow_counts(random, &mut file),
+        18 => {
+            let length = random.index(41).min(file.bytes.len());
+            file.bytes.drain(..file.bytes.len() - length);
+        }
+        _ => {
+            let length = random.index(41);
+            file.bytes = random.bytes(length);
+        }
+    }
+    file.bytes
+}
+
 /// A length that is given with a file: mostly its own; or shorter, beyond the buffer, or with other bytes
 /// behind it.
 pub fn length(random: &mut Random, buffer: &mut Vec<u8>) -> usize {

@@ -2,7 +2,7 @@
 //!
 //!     differential [--seed N] [--count N]
 //!
-//! Each cheap subject gets `count` comparisons (1,000,000 where none is given), elements files a
+//! Each cheap subject gets `count` comparisons (1,000,000 where none is given), elements files and tails a
 //! tenth of it, labelling, reading and adding a hundredth in days and files. The same seed gives the same
 //! inputs.
 
@@ -18,6 +18,7 @@ mod numbers;
 mod random;
 mod report;
 mod shades;
+mod tails;
 
 use std::process::ExitCode;
 use std::time::Instant;
@@ -55,7 +56,7 @@ fn main() -> ExitCode {
         return ExitCode::from(2);
     };
     println!("seed {seed}");
-    let subjects: [(&str, u64, Subject); 12] = [
+    let subjects: [(&str, u64, Subject); 13] = [
         ("sine", count, numbers::sine),
         ("kepler", count, numbers::kepler),
         ("position", count, numbers::position),
@@ -68,6 +69,7 @@ fn main() -> ExitCode {
         ("root", count, numbers::root),
         ("revolution", count, numbers::revolution),
         ("add", count / 100, additions::adding),
+        ("tail", count / 10, tails::tail),
     ];
     let mut differences = 0;
     for (number, (name, rounds, compare)) in subjects.into_iter().enumerate() {

@@ -42,6 +42,8 @@ const SHOWN: u64 = 5;
 pub struct Report {
     subject: &'static str,
     comparisons: u64,
+    /// How often each kind of answer was given, where the subject tells kinds apart.
+    answers: BTreeMap<&'static str, u64>,
     /// How often each refusal, or fault of an elements file, was given, by its number.
     refusals: BTreeMap<u32, u64>,
     differences: u64,
@@ -49,7 +51,18 @@ pub struct Report {
 
 impl Report {
     pub fn new(subject: &'static str) -> Report {
-        Report { subject, comparisons: 0, refusals: BTreeMap::new(), differences: 0 }
+        Report {
+            subject,
+            comparisons: 0,
+            answers: BTreeMap::new(),
+            refusals: BTreeMap::new(),
+            differences: 0,
+        }
+    }
+
+    /// Counts an answer of a kind.
+    pub fn answer(&mut self, kind: &'static str) {
+        *self.answers.entry(kind).or_default() += 1;
     }
 
     /// Compares two outcomes of one input.
@@ -114,9 +127,12 @@ impl Report {
     }
 
     pub fn print(&self, took: Duration) {
-        let Report { subject, comparisons, refusals, differences } = self;
+        let Report { subject, comparisons, answers, refusals, differences } = self;
         let seconds = took.as_secs_f64();
         println!("{subject}: {comparisons} comparisons, {differences} differences, {seconds:.1} s");
+        for (kind, times) in answers {
+            println!("  {kind}: {times}");
+        }
         for (number, times) in refusals {
             let kind = if *number > 100 { "fault" } else { "refusal" };
             println!("  {kind} {number}: {times}");

@@ -14,6 +14,7 @@ pub mod orbit;
 pub mod refusal;
 pub mod sine;
 pub mod sun;
+pub mod tail;
 pub mod telemetry;
 pub mod trailer;
 

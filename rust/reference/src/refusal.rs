@@ -24,7 +24,7 @@ pub enum Refusal {
     TelemetryLength = 10,
     /// Output, or room from a file's first label on, too short for the labels and the trailer.
     OutputLength = 11,
-    /// Length or trailer of a label file.
+    /// Length or trailer of a label file, or how many bytes its tail has.
     Trailer = 12,
     /// A label that breaks a field rule, or counts that are not those of the labels.
     Labels = 13,

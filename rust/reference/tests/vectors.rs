@@ -4,6 +4,7 @@ use reference::eclipse::shade;
 use reference::file::{add, label_day, read};
 use reference::orbit::Position;
 use reference::sun::{sun, Direction};
+use reference::tail::dark_test;
 use reference::trailer::Counts;
 use reference::{kepler, Refusal};
 use vectors::{Elements, Labeller, Refused};
@@ -92,6 +93,10 @@ impl Labeller for Reference {
     ) -> Result<usize, Refused> {
         let added = add(&elements(set), buffer, length, telemetry).map_err(refused)?;
         Ok(added.length)
+    }
+
+    fn tail(&self, tail: &[u8], length: u64) -> Result<Option<u32>, u32> {
+        dark_test(tail, length).map_err(Refusal::number)
     }
 }
 

@@ -1,10 +1,13 @@
-//! Runs the lines of vectors/K04.txt against a labeller.
+//! Runs the lines of vectors/ against a labeller.
 
 use std::fmt::Display;
 use std::str::{FromStr, SplitWhitespace};
 
-/// The vectors; the head of the file says what a line holds.
-const VECTORS: &str = include_str!("../../../vectors/K04.txt");
+/// The vectors, with the number of their lines; the head of a file says what a line holds.
+const VECTORS: [(&str, usize); 2] = [
+    (include_str!("../../../vectors/K04.txt"), 1_760),
+    (include_str!("../../../vectors/K05.txt"), 410),
+];
 
 /// What the output holds before labelling.
 const FILL: u8 = 0xaa;
@@ -46,6 +49,8 @@ pub trait Labeller {
         length: usize,
         telemetry: &[u8],
     ) -> Result<usize, Refused>;
+    /// The dark test labels by the last bytes of a file and its length, or none where they are not held.
+    fn tail(&self, tail: &[u8], length: u64) -> Result<Option<u32>, u32>;
 }
 
 /// The words of a line's inputs, taken one after another.
@@ -146,19 +151,26 @@ fn answer(labeller: &impl Labeller, subject: &str, mut inputs: Inputs) -> String
             }
             outcome.map_or_else(refused_at, |length| accepted([length.to_string(), hex(&buffer)]))
         }
+        "tail" => match labeller.tail(&inputs.bytes(), inputs.number()) {
+            Ok(Some(dark_test)) => accepted([dark_test]),
+            Ok(None) => "unheld".to_string(),
+            Err(number) => refused(number),
+        },
         _ => panic!("no subject {subject}"),
     }
 }
 
 /// Runs every vector, and panics at the first that does not match.
 pub fn run(labeller: &impl Labeller) {
-    let mut compared = 0;
-    for line in VECTORS.lines().filter(|line| !line.starts_with('#')) {
-        let (asked, expected) = line.split_once(" = ").expect("inputs = answer");
-        let (subject, inputs) = asked.split_once(' ').expect("a subject and its inputs");
-        let found = answer(labeller, subject, Inputs(inputs.split_whitespace()));
-        assert_eq!(found, expected, "{line}");
-        compared += 1;
+    for (lines, number) in VECTORS {
+        let mut compared = 0;
+        for line in lines.lines().filter(|line| !line.starts_with('#')) {
+            let (asked, expected) = line.split_once(" = ").expect("inputs = answer");
+            let (subject, inputs) = asked.split_once(' ').expect("a subject and its inputs");
+            let found = answer(labeller, subject, Inputs(inputs.split_whitespace()));
+            assert_eq!(found, expected, "{line}");
+            compared += 1;
+        }
+        assert_eq!(compared, number, "the vectors are all there");
     }
-    assert_eq!(compared, 1_760, "the vectors are all there");
 }

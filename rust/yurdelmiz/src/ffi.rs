@@ -36,6 +36,14 @@ pub const SHADE_BYTES: usize = 1;
 pub const READ_BYTES: usize = 24;
 /// Length of the answer of [`yurdelmiz_add`].
 pub const ADD_BYTES: usize = 28;
+/// Length of the answer of [`yurdelmiz_dark_test`].
+pub const DARK_TEST_BYTES: usize = 4;
+
+/// Length of the `tail` of [`yurdelmiz_dark_test`], of a file that has as many bytes.
+pub const TAIL_BYTES: usize = 24;
+
+/// Stands in the answer of [`yurdelmiz_dark_test`] for a figure that the trailer, of 16 bytes, does not hold.
+pub const NOT_HELD: u32 = u32::MAX;
 
 extern "C" {
     /// The sine of an angle.
@@ -115,4 +123,13 @@ extern "C" {
         answer: *mut u8,
         answer_len: usize,
     ) -> u64;
+
+    /// The dark test labels of a label file of `size` bytes, by its last bytes.
+    pub fn yurdelmiz_dark_test(
+        tail: *const u8,
+        tail_len: usize,
+        size: u64,
+        answer: *mut u8,
+        answer_len: usize,
+    ) -> u32;
 }

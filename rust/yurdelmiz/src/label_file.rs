@@ -35,6 +35,9 @@ impl<'a> LabelFile<'a> {
     /// A reader of a longer file needs no more than that much of its end.
     pub const LONGEST: usize = Form::Bytes24.distance(LabelFile::MOST_LABELS);
 
+    /// How many of a file's last bytes [`dark_test`](crate::dark_test) takes; of a shorter file it takes all.
+    pub const TAIL: usize = ffi::TAIL_BYTES;
+
     /// Reads a whole file; refusals 12 and 13. It may have any bytes ahead of its first label.
     pub fn read(file: &'a [u8]) -> Result<LabelFile<'a>, Refused> {
         let (counts, form) = read(file, file.len())?;
@@ -111,6 +114,7 @@ mod tests {
     #[test]
     fn the_longest_file() {
         assert_eq!(LabelFile::LONGEST, 24_600);
+        assert_eq!(LabelFile::TAIL, 24);
         assert_eq!(Form::ALL.map(|form| form.distance(1)), [FILE_16.len(), FILE_24.len()]);
     }
 

@@ -5,7 +5,8 @@
 //! a turn, sines and direction components 2^-30, times are seconds from 1990 Jan 0.0.
 //!
 //! ```
-//! use yurdelmiz::{add_to_vec, label_to_vec, parse_elements, LabelFile, Reading, Sample, Shade, Side};
+//! use yurdelmiz::{add_to_vec, dark_test, label_to_vec, parse_elements};
+//! use yurdelmiz::{LabelFile, Reading, Sample, Shade, Side};
 //!
 //! let elements = parse_elements(
 //!     b"eccentricity 6100000
@@ -34,6 +35,9 @@
 //! let counts = add_to_vec(&elements, &mut bytes, &later.to_bytes())?;
 //! assert_eq!((counts.labels, counts.dark), (2, 2));
 //! assert_eq!(bytes, label_to_vec(&elements, &[sample.to_bytes(), later.to_bytes()].concat())?);
+//!
+//! let tail = &bytes[bytes.len() - LabelFile::TAIL..];
+//! assert_eq!(dark_test(tail, bytes.len() as u64)?, Some(counts.dark_test));
 //! # Ok::<(), Box<dyn std::error::Error>>(())
 //! ```
 
@@ -51,6 +55,7 @@ mod labelling;
 mod orbit;
 mod refusal;
 mod sun;
+mod tail;
 mod telemetry;
 mod trailer;
 mod trig;
@@ -66,6 +71,7 @@ pub use labelling::{add, add_to_vec, label_day, label_to_vec, Added};
 pub use orbit::{position, Position, State};
 pub use refusal::{Refusal, Refused};
 pub use sun::{sun, Direction, Sun};
+pub use tail::dark_test;
 pub use telemetry::{Reading, Sample};
 pub use trailer::{Counts, Form};
 pub use trig::{cosine, sine};

@@ -29,7 +29,7 @@ pub enum Refusal {
     /// 11: shorter than 24 bytes a record and 24; in adding, for the labels of the file too, from the
     /// first of them on.
     OutputLength,
-    /// 12: a label file's length, or a number of its trailer.
+    /// 12: a label file's length, a number of its trailer, or how many bytes its tail has.
     Trailer,
     /// 13: a label breaks a field rule, or a count of the trailer is not that of the labels.
     Labels,

@@ -3,30 +3,11 @@
 
 mod common;
 
-use common::OSCAR_10;
+use common::{day, telemetry, with_16_bytes, OSCAR_10};
 use yurdelmiz::{
     add, add_to_vec, ffi, label_to_vec, read, Added, Elements, Form, Label, Refusal, Refused,
     Sample,
 };
-
-/// Records so many seconds from the epoch.
-fn telemetry(seconds: &[i64]) -> Vec<u8> {
-    let sample = |after: &i64| Sample { time: OSCAR_10.epoch + after, volts: 14.0, amperes: 0.5 };
-    seconds.iter().flat_map(|after| sample(after).to_bytes()).collect()
-}
-
-/// Records over 35 days, with labels of every side and dark ones on the test side.
-fn day() -> Vec<u8> {
-    telemetry(&(0..300).map(|record| record * 10_007).collect::<Vec<_>>())
-}
-
-/// A file with the trailer of 16 bytes in place of that of 24.
-fn with_16_bytes(file: &[u8]) -> Vec<u8> {
-    let (body, trailer) = file.split_at(file.len() - Form::Bytes24.size());
-    let labels = body.len() / Label::SIZE;
-    let distance = Form::Bytes16.distance(labels) as u32;
-    [body, &trailer[..12], &distance.to_le_bytes()].concat()
-}
 
 #[test]
 fn parts_make_the_day() {

@@ -90,6 +90,10 @@ impl Labeller for Library {
         let added = yurdelmiz::add(&elements(set), buffer, length, telemetry).map_err(refused)?;
         Ok(added.size)
     }
+
+    fn tail(&self, tail: &[u8], length: u64) -> Result<Option<u32>, u32> {
+        yurdelmiz::dark_test(tail, length).map_err(Refusal::number)
+    }
 }
 
 #[test]

@@ -1,5 +1,7 @@
 //! A low satellite, whose days have labels of every side and shade, and the files of document 01's listing.
 
+#![allow(dead_code)]
+
 use reference::orbit::Elements;
 
 pub const ELEMENTS: Elements = Elements {
