@@ -136,4 +136,4 @@ darkTestOutcome tail.NotHeld = given (bytes4 notHeld)
 darkTestOutcome (tail.Held labels) = given (bytes4 labels)
 
 unfoldable pub darkTestCall : List ℕ → ℕ → List ℕ → Call
-darkTestCall tail size buffer = callOf (eqb (length buffer) 4) (darkTestOutcome (tailReading tail size)) buffer
+darkTestCall bytes size buffer = callOf (eqb (length buffer) 4) (darkTestOutcome (tailReading bytes size)) buffer
