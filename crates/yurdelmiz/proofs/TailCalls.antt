@@ -34,13 +34,13 @@ use Rattle.yurdelmiz.proofs.Endings.{ends}
 
 -- ---- the bytes of a read call's answer
 
-form-told : (form : Form) (c : Counts) → le4 (readBytes form c) 20 ≡ trailerSize form
+form-in-answer : (form : Form) (c : Counts) → le4 (readBytes form c) 20 ≡ trailerSize form
 unfolding readBytes countsBytes words bytes4
-form-told form c = back4 (trailerSize form) (omega (arith, size-bounds form))
+form-in-answer form c = back4 (trailerSize form) (omega (arith, size-bounds form))
 
-dark-test-told : (form : Form) (c : Counts) → c .«dark_test» < 4294967296 → le4 (readBytes form c) 16 ≡ c .«dark_test»
+dark-test-in-answer : (form : Form) (c : Counts) → c .«dark_test» < 4294967296 → le4 (readBytes form c) 16 ≡ c .«dark_test»
 unfolding readBytes countsBytes words bytes4
-dark-test-told form c h = back4 (c .«dark_test») h
+dark-test-in-answer form c h = back4 (c .«dark_test») h
 
 -- ---- the two calls
 
@@ -80,7 +80,7 @@ module _ (file out answer : List ℕ) (out-length : length out ≡ 24) (answer-l
 
   -- of an accepted file
   form-by : (form : Form) (c : Counts) → fileReading file ≡ reading.Accepted form c → le4 (whole file out .answer) 20 ≡ trailerSize form
-  form-by form c e = ap (λ (x : Call). le4 (x .answer) 20) (whole-by e) ∙ form-told form c
+  form-by form c e = ap (λ (x : Call). le4 (x .answer) 20) (whole-by e) ∙ form-in-answer form c
 
   held-by : (r : FileReading) → fileReading file ≡ r → whole file out .status ≡ 0 → le4 (whole file out .answer) 20 ≡ 24
       → asked file answer ≡ record { status = 0; answer = bytes4 (le4 (whole file out .answer) 16) }
@@ -90,7 +90,7 @@ module _ (file out answer : List ℕ) (out-length : length out ≡ 24) (answer-l
   held-by (reading.Accepted Bytes24 c) e s f =
       let a = accepted-file file Bytes24 c e in
       let t = trailer-says file _ Bytes24 c (a .trailer) in
-      let n = ap (λ (x : Call). le4 (x .answer) 16) (whole-by e) ∙ dark-test-told Bytes24 c (omega (arith, t .placed .few, t .bounded .dark, t .bounded .dark-test)) in
+      let n = ap (λ (x : Call). le4 (x .answer) 16) (whole-by e) ∙ dark-test-in-answer Bytes24 c (omega (arith, t .placed .few, t .bounded .dark, t .bounded .dark-test)) in
       asked-by (says .held c e ∙ sym (ap (λ (x : Counts). tail.Held (x .«dark_test»)) (a .counts)) ∙ ap tail.Held (sym n))
 
   not-held-by : (r : FileReading) → fileReading file ≡ r → whole file out .status ≡ 0 → le4 (whole file out .answer) 20 ≡ 16

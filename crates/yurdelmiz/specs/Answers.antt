@@ -75,10 +75,10 @@ countsBytes c = words (c .labels ∷ c .training ∷ c .test ∷ c .dark ∷ c .
 unfoldable pub readBytes : Form → Counts → List ℕ
 readBytes form c = countsBytes c ++ bytes4 (trailerSize form)
 
--- in place of a figure that a file's trailer does not hold
-unfoldable pub notHeld : ℕ
-notHeld = 2 ^ 32 - 1
-
 -- 28 bytes: where the file ends, and the counts
 unfoldable pub addBytes : Counts → ℕ → List ℕ
 addBytes c size = bytes8 size ++ countsBytes c
+
+-- in place of a figure that a file's trailer does not hold
+unfoldable pub notHeld : ℕ
+notHeld = 2 ^ 32 - 1

@@ -109,10 +109,15 @@ pub fn read_tail<'a>(path: &Path, room: &'a mut [u8]) -> Result<(&'a [u8], u64),
     let metadata = file.metadata().map_err(told)?;
     check_regular(&metadata)?;
     let length = metadata.len();
+    Ok((last_bytes(&file, length, room)?, length))
+}
+
+/// The last bytes of an open file, by the length that it had.
+fn last_bytes<'a>(file: &File, length: u64, room: &'a mut [u8]) -> Result<&'a [u8], String> {
     let number = length.min(room.len() as u64);
     let tail = &mut room[..number as usize];
     match file.read_exact_at(tail, length - number) {
-        Ok(()) => Ok((tail, length)),
+        Ok(()) => Ok(tail),
         Err(error) if error.kind() == io::ErrorKind::UnexpectedEof => {
             Err("it changed while it was read".to_owned())
         }
@@ -143,4 +148,30 @@ pub fn looks_like_text(bytes: &[u8]) -> bool {
         Err(_) => return false,
     };
     !text.is_empty() && text.chars().all(|c| !c.is_control() || matches!(c, '\n' | '\r' | '\t'))
+}
+
+#[cfg(test)]
+mod tests {
+    use std::{env, process};
+
+    use super::*;
+
+    #[test]
+    fn a_file_that_was_cut() {
+        let path = env::temp_dir().join(format!("yurdelmiz-input-{}", process::id()));
+        let bytes: Vec<u8> = (0..30).collect();
+        fs::write(&path, &bytes).unwrap();
+        let file = File::open(&path).unwrap();
+        fs::remove_file(&path).unwrap();
+        let mut room = [0; 24];
+        assert_eq!(last_bytes(&file, 30, &mut room), Ok(&bytes[6..]));
+        for length in [31, 53, 54, 55, 1 << 40] {
+            let told = last_bytes(&file, length, &mut room);
+            assert_eq!(told, Err("it changed while it was read".to_owned()), "{length}");
+        }
+        // It was written to: the bytes are those of the length.
+        assert_eq!(last_bytes(&file, 24, &mut room), Ok(&bytes[..24]));
+        assert_eq!(last_bytes(&file, 3, &mut room), Ok(&bytes[..3]));
+        assert_eq!(last_bytes(&file, 0, &mut room), Ok(&[][..]));
+    }
 }

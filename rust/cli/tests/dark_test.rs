@@ -214,18 +214,6 @@ fn a_file_of_a_tebibyte() {
     folder.run(["dark-test", "24", "16", "zeros"]).is(1, lines);
 }
 
-/// A file that ends before its length says so, as one that was cut meanwhile does. The system has such files.
-#[test]
-fn shorter_than_its_length() {
-    let name = "/sys/kernel/uevent_seqnum";
-    let folder = folder();
-    let Ok(metadata) = fs::metadata(name) else { return };
-    if metadata.is_file() && metadata.len() > 1_000 {
-        let lines = format!("{name}\tcannot be read: it changed while it was read\nday\t7\n");
-        folder.run(["dark-test", name, "day"]).is(3, &lines);
-    }
-}
-
 #[test]
 fn ten_thousand_files() {
     let folder = Folder::new();
