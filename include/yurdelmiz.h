@@ -48,7 +48,8 @@ enum {
     /* 9 is not used, and not to be used again. */
     /* Telemetry length no multiple of 16, or over 1,024 records with the labels of the file. */
     YURDELMIZ_TELEMETRY_LENGTH = 10,
-    /* From the first label on, output or buffer shorter than 24 bytes a label plus 24. */
+    /* From the first label on, output or buffer shorter than 24 bytes a label plus 24, in
+     * yurdelmiz_salvage a label that is kept. */
     YURDELMIZ_OUTPUT_LENGTH = 11,
     /* Label file: fewer than 16 bytes, a length beyond the buffer, a trailer that does not fit, or a tail
      * of another number of bytes. */
@@ -95,7 +96,8 @@ enum {
     YURDELMIZ_SHADE_BYTES = 1,
     YURDELMIZ_ADD_BYTES = 28,
     YURDELMIZ_READ_BYTES = 24,
-    YURDELMIZ_DARK_TEST_BYTES = 4
+    YURDELMIZ_DARK_TEST_BYTES = 4,
+    YURDELMIZ_SALVAGE_BYTES = 12
 };
 
 /* The bytes of `tail` in yurdelmiz_dark_test, or all of the file where it has fewer. */
@@ -284,6 +286,23 @@ uint64_t yurdelmiz_read(const uint8_t *file, size_t file_len, size_t size,
  */
 uint32_t yurdelmiz_dark_test(const uint8_t *tail, size_t tail_len, uint64_t size,
                              uint8_t *answer, size_t answer_len);
+
+/* Keeps the labels at the start of `bytes`, which begin with the first label of a file: every whole 24
+ * bytes, in order, that keep the field rules, up to the first that do not, or the end, or 1,024 of them.
+ * They go to the start of `output`, and a trailer of 24 bytes with their counts behind them; what lies
+ * behind that is unchanged. Of a file that yurdelmiz_read accepts, with nothing in front, cut anywhere or
+ * not at all, all whole labels before the cut are kept, and what is left of its trailer is dropped.
+ * yurdelmiz_read accepts what is written, in the first 24 * labels + 24 bytes of `output`. The first 24,576
+ * bytes decide: of a longer input no more need be handed over, and the rest counts as dropped. 24 zero
+ * bytes keep the field rules. Refusal 11, for the labels that are kept.
+ *
+ *   answer, 12 bytes:
+ *     0  u32  labels kept, 0 to 1,024
+ *     4  u64  bytes dropped, all of `bytes` but 24 a label
+ */
+uint32_t yurdelmiz_salvage(const uint8_t *bytes, size_t bytes_len,
+                           uint8_t *output, size_t output_len,
+                           uint8_t *answer, size_t answer_len);
 
 #ifdef __cplusplus
 }

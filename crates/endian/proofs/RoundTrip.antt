@@ -13,7 +13,7 @@ pub back4 : (v : ℕ) → v < 4294967296 → le4 (bytes4 v) 0 ≡ v
 unfolding bytes4
 back4 v h = omega arith
 
-back8 : (v : ℕ) → v < 18446744073709551616 → le8 (bytes8 v) 0 ≡ v
+pub back8 : (v : ℕ) → v < 18446744073709551616 → le8 (bytes8 v) 0 ≡ v
 unfolding bytes8 bytes4
 back8 v h =
     let low = back4 (v % 4294967296) (omega arith) in

@@ -1,15 +1,15 @@
 -- What a call that ended with status 0 gave, for its caller to cite; and what the result of a malformed elements file says. Assumes nothing.
 use mathlib.Core.Path.{_≡_, refl, sym, ap, subst, _∙_}
-use mathlib.Core.Bool.{Bool, true, false, _&&_}
+use mathlib.Core.Bool.{Bool, true, false}
 use mathlib.Core.List.{List}
-use Prim.Native.Nat.{ℕ, _/_, _%_, _^_, _≤_, _<_}
+use Prim.Native.Nat.{ℕ, _+_, _*_, _/_, _%_, _^_, _≤_, _<_}
 use native.Mathlib.Omega.{arith}
 use borrow.Author.Tests.{eq-eqb, leb-true, leb-false}
-use lib.Dec.{lit≤, leb, eqb}
+use lib.Dec.{lit≤, leb}
 use lib.IntN.{ℤ}
 use lib.ListN.{length}
-use Rattle.endian.specs.LittleEndian.{le4}
-use Rattle.endian.proofs.RoundTrip.{back4}
+use Rattle.endian.specs.LittleEndian.{le4, le8, bytes4, bytes8}
+use Rattle.endian.proofs.RoundTrip.{back4, back8}
 use Rattle.refusal.proofs.Numbers.{never-0}
 use Rattle.kepler.specs.Contract.{AnomalyAt}
 use Rattle.kepler.specs.Solution.{solution}
@@ -29,6 +29,10 @@ use Rattle.elements_file.specs.declared.Fault.the-variants.{Name, Extra, Contro
 use Rattle.elements_file.specs.declared.Parsed.{Parsed}
 use Rattle.elements_file.specs.declared.Parsed.the-variants as parsed
 use Rattle.elements_file.proofs.Consistency.{parsed-in-bounds}
+use Rattle.label.specs.Layout.{labelSize}
+use Rattle.label_file.specs.Counts.{countsOf}
+use Rattle.label_file.specs.Reading.{heldAt}
+use Rattle.label_file.specs.Trailer.{distanceBack}
 use Rattle.label_file.specs.declared.Counts.{Counts}
 use Rattle.label_file.specs.declared.Form.the-variants.{Bytes24}
 use Rattle.label_file.specs.declared.TailReading.{TailReading}
@@ -41,12 +45,15 @@ use Rattle.labelling.specs.declared.Labelling.{Labelling}
 use Rattle.labelling.specs.declared.Labelling.the-variants as labelling
 use Rattle.labelling.proofs.AddedFile.{added-buffer-accepted}
 use Rattle.labelling.proofs.WrittenFile.{written-buffer-accepted}
-use Rattle.yurdelmiz.specs.Answers.{anomalyBytes, stateBytes, elementsBytes, readBytes, addBytes, notHeld}
+use Rattle.salvage.specs.Salvage.{salvaging, salvagedOutput}
+use Rattle.salvage.specs.declared.Salvage.{Salvage}
+use Rattle.salvage.specs.declared.Salvage.the-variants as salvage
+use Rattle.salvage.proofs.Written.{kept-bounds, output-accepted}
+use Rattle.yurdelmiz.specs.Answers.{anomalyBytes, stateBytes, elementsBytes, readBytes, addBytes, salvageBytes, notHeld}
 use Rattle.yurdelmiz.specs.Buffers.{elementsOf}
 use Rattle.yurdelmiz.specs.Faults.{faultNumber, faultPlace}
-use Rattle.yurdelmiz.specs.Call.{Call, Outcome, refused, given, callOf, statusAt}
-use Rattle.yurdelmiz.specs.Calls.{anomalyOutcome, keplerCall, earthFixedAt, stateOutcome, positionCall, elementsOutcome, elementsCall, dayOutcome, labelCall, labelOutcome, AddCall, addCall, readOutcome, readCall, darkTestOutcome, darkTestCall}
-use Rattle.yurdelmiz.proofs.Additions.{by-answer, bad-lengths}
+use Rattle.yurdelmiz.specs.Call.{Call, Outcome, refused, given, callOf, BufferCall, BufferOutcome, rejected, written, bufferCallOf, statusAt}
+use Rattle.yurdelmiz.specs.Calls.{anomalyOutcome, keplerCall, earthFixedAt, stateOutcome, positionCall, elementsOutcome, elementsCall, dayOutcome, labelCall, labelOutcome, addOutcome, addCall, readOutcome, readCall, darkTestOutcome, darkTestCall, salvageOutcome, salvageCall}
 use Rattle.yurdelmiz.proofs.Elements.{elements-back}
 use Rattle.yurdelmiz.proofs.Endings.{ends-refused, ends-given}
 
@@ -73,6 +80,18 @@ unfolding callOf
 accepted true (refused status) buffer e = e
 accepted true (given bytes) buffer e = refl
 accepted false outcome buffer e = absurd (omega arith)
+
+-- the same of a call that writes a buffer beside its answer
+abbrev BufferEnding : BufferOutcome → BufferCall → Type 0
+BufferEnding (rejected status) call = status ≡ 0
+BufferEnding (written after bytes) call = (call .buffer ≡ after) × (call .answer ≡ bytes)
+
+buffer-accepted : (lengths : Bool) (outcome : BufferOutcome) (buffer answer : List ℕ) → bufferCallOf lengths outcome buffer answer .status ≡ 0
+    → BufferEnding outcome (bufferCallOf lengths outcome buffer answer)
+unfolding bufferCallOf
+buffer-accepted true (rejected status) buffer answer e = e
+buffer-accepted true (written after bytes) buffer answer e = (refl, refl)
+buffer-accepted false outcome buffer answer e = absurd (omega arith)
 
 -- ---- yurdelmiz_kepler
 
@@ -184,36 +203,25 @@ pub record AddAnswer (elements buffer : List ℕ) (size : ℕ) (telemetry answer
   pub reads-back : (out : List ℕ) → length out ≡ 24
       → readCall (addCall elements buffer size telemetry answer .buffer) end out ≡ record { status = 0; answer = readBytes Bytes24 counts }
 
-module _ (elements buffer : List ℕ) (size : ℕ) (telemetry answer : List ℕ) where
-  abbrev lengths : Bool
-  lengths = eqb (length elements) 52 && eqb (length answer) 28
+add-by : (elements buffer : List ℕ) (size : ℕ) (telemetry answer : List ℕ) (r : Labelling) → adding (elementsOf elements) buffer size telemetry ≡ r
+    → BufferEnding (addOutcome r (bufferAfter (elementsOf elements) buffer size telemetry)) (addCall elements buffer size telemetry answer)
+    → AddAnswer elements buffer size telemetry answer
+unfolding readCall
+add-by elements buffer size telemetry answer (labelling.Refused refusal place) e g = absurd (omega (arith, never-0 refusal))
+add-by elements buffer size telemetry answer (labelling.Labelled counts end) e g =
+    record {
+      counts = counts;
+      end = end;
+      added = e;
+      buffer-is = g .0;
+      answer-is = g .1;
+      reads-back = λ out k. rw (g .0) (sym (ends-given _ _ out refl (eq-eqb _ 24 k) (ap readOutcome (added-buffer-accepted (elementsOf elements) buffer size telemetry counts end e))));
+    }
 
-  abbrev el : Elements
-  el = elementsOf elements
-
-  add-by : lengths ≡ true → (r : Labelling) → adding el buffer size telemetry ≡ r → addCall elements buffer size telemetry answer .status ≡ 0 → AddAnswer elements buffer size telemetry answer
-  unfolding readCall
-  add-by n (labelling.Refused refusal place) e s =
-      let call = by-answer elements buffer size telemetry answer n (sym e) in
-      absurd (omega (arith, never-0 refusal, sym (ap (λ (c : AddCall). c .status) call) ∙ s))
-  add-by n (labelling.Labelled counts end) e s =
-      let call = by-answer elements buffer size telemetry answer n (sym e) in
-      let after = ap (λ (c : AddCall). c .buffer) call in
-      record {
-        counts = counts;
-        end = end;
-        added = e;
-        buffer-is = after;
-        answer-is = ap (λ (c : AddCall). c .answer) call;
-        reads-back = λ out k. rw after (sym (ends-given _ _ out refl (eq-eqb _ 24 k) (ap readOutcome (added-buffer-accepted el buffer size telemetry counts end e))));
-      }
-
-  by-lengths : (t : Bool) → lengths ≡ t → addCall elements buffer size telemetry answer .status ≡ 0 → AddAnswer elements buffer size telemetry answer
-  by-lengths true n s = add-by n (adding el buffer size telemetry) refl s
-  by-lengths false n s = absurd (omega (arith, ap (λ (c : AddCall). c .status) (bad-lengths elements buffer size telemetry answer n) ∙ s))
-
-  pub add-accepted : addCall elements buffer size telemetry answer .status ≡ 0 → AddAnswer elements buffer size telemetry answer
-  add-accepted s = by-lengths lengths refl s
+pub add-accepted : (elements buffer : List ℕ) (size : ℕ) (telemetry answer : List ℕ) → addCall elements buffer size telemetry answer .status ≡ 0 → AddAnswer elements buffer size telemetry answer
+unfolding addCall
+add-accepted elements buffer size telemetry answer s =
+    add-by elements buffer size telemetry answer (adding (elementsOf elements) buffer size telemetry) refl (buffer-accepted _ _ buffer answer s)
 
 -- ---- yurdelmiz_dark_test
 
@@ -234,3 +242,45 @@ dark-test-accepted bytes size buffer s = by _ (tailReading bytes size) refl (acc
     by answer (tail.Held labels) e g =
         let few = held-few bytes size labels e in
         (ap (λ (l : List ℕ). le4 l 0) g ∙ back4 labels (omega (arith, few)), few)
+
+-- ---- yurdelmiz_salvage, and yurdelmiz_read of what it wrote
+
+-- the numbers in the answer are the labels kept and the bytes dropped, with which every byte given is accounted for; the output is the
+-- definition's, and a read call takes the file in it with the counts of the labels kept
+pub record SalvageAnswer (body output answer : List ℕ) : Type 0 where
+  pub labels : ℕ
+  pub dropped : ℕ
+  pub salvaged : salvaging body (length output) ≡ salvage.Kept labels dropped
+  pub each-byte : labelSize * labels + dropped ≡ length body
+  pub output-is : salvageCall body output answer .buffer ≡ salvagedOutput body output
+  pub labels-are : le4 (salvageCall body output answer .answer) 0 ≡ labels
+  pub dropped-are : length body < 2 ^ 64 → le8 (salvageCall body output answer .answer) 4 ≡ dropped
+  pub reads-back : (out : List ℕ) → length out ≡ 24
+      → readCall (salvageCall body output answer .buffer) (distanceBack Bytes24 labels) out ≡ record { status = 0; answer = readBytes Bytes24 (countsOf (heldAt body) labels) }
+
+-- the two numbers of the answer
+salvage-back : (labels dropped : ℕ) → labels ≤ 1_024 → (le4 (salvageBytes labels dropped) 0 ≡ labels) × (dropped < 2 ^ 64 → le8 (salvageBytes labels dropped) 4 ≡ dropped)
+unfolding salvageBytes bytes4 bytes8
+salvage-back labels dropped few = (back4 labels (omega arith), λ h. back8 dropped h)
+
+salvage-by : (body output answer : List ℕ) (r : Salvage) → salvaging body (length output) ≡ r
+    → BufferEnding (salvageOutcome r (salvagedOutput body output)) (salvageCall body output answer) → SalvageAnswer body output answer
+unfolding readCall
+salvage-by body output answer (salvage.Refused refusal) e g = absurd (omega (arith, never-0 refusal))
+salvage-by body output answer (salvage.Kept labels dropped) e g =
+    let bounds = kept-bounds body output labels dropped e in
+    let numbers = salvage-back labels dropped (bounds .0) in
+    record {
+      labels = labels;
+      dropped = dropped;
+      salvaged = e;
+      each-byte = bounds .1;
+      output-is = g .0;
+      labels-are = ap (λ (l : List ℕ). le4 l 0) (g .1) ∙ numbers .0;
+      dropped-are = λ h. ap (λ (l : List ℕ). le8 l 4) (g .1) ∙ numbers .1 (omega (arith, bounds .1));
+      reads-back = λ out k. rw (g .0) (sym (ends-given _ _ out refl (eq-eqb _ 24 k) (ap readOutcome (output-accepted body output labels dropped e))));
+    }
+
+pub salvage-accepted : (body output answer : List ℕ) → salvageCall body output answer .status ≡ 0 → SalvageAnswer body output answer
+unfolding salvageCall
+salvage-accepted body output answer s = salvage-by body output answer (salvaging body (length output)) refl (buffer-accepted _ _ output answer s)

@@ -1,12 +1,10 @@
--- The ways in which a call of yurdelmiz_add ends. Assumes nothing.
+-- An addition as the outcome of a call. Assumes nothing.
 use mathlib.Core.Path.{_≡_, sym, ap, _∙_}
-use mathlib.Core.Bool.{true, false, _&&_}
 use Prim.Native.Nat.{ℕ}
 use mathlib.Core.List.{List}
-use lib.Dec.{eqb}
-use lib.ListN.{length}
 use Rattle.refusal.specs.Numbers.{numberOf}
 use Rattle.refusal.specs.declared.Refusal.{Refusal}
+use Rattle.orbit.specs.declared.elements.Elements.{Elements}
 use Rattle.label_file.specs.declared.Counts.{Counts}
 use Rattle.labelling.specs.Adding.{adding, bufferAfter}
 use Rattle.labelling.specs.Contract.{AddedTo}
@@ -14,33 +12,20 @@ use Rattle.labelling.specs.declared.Labelling.{Labelling}
 use Rattle.labelling.specs.declared.Labelling.the-variants.{Labelled, Refused}
 use Rattle.labelling.proofs.AddedFile.{adding-refused}
 use Rattle.yurdelmiz.specs.Answers.{addBytes}
-use Rattle.yurdelmiz.specs.Buffers.{elementsOf}
-use Rattle.yurdelmiz.specs.Call.{statusAt}
-use Rattle.yurdelmiz.specs.Calls.{AddCall, addEnded, addCall}
+use Rattle.yurdelmiz.specs.Call.{rejected, written, statusAt}
+use Rattle.yurdelmiz.specs.Calls.{addOutcome}
 
-module _ (elements buffer : List ℕ) (size : ℕ) (telemetry answer : List ℕ) where
-  -- a length is not the header's
-  pub bad-lengths : (eqb (length elements) 52 && eqb (length answer) 28) ≡ false
-      → _≡_ {A = AddCall} (record { status = 255; buffer = buffer; answer = answer }) (addCall elements buffer size telemetry answer)
-  unfolding addCall
-  bad-lengths e = rw (e, addCall)
+module _ {el : Elements} {buffer : List ℕ} {size : ℕ} {telemetry after : List ℕ} {r : Labelling} (added : AddedTo el buffer size telemetry after r) where
+  outcome-is : {x : Labelling} → r ≡ x → addOutcome (adding el buffer size telemetry) (bufferAfter el buffer size telemetry) ≡ addOutcome x (bufferAfter el buffer size telemetry)
+  outcome-is e = ap (λ (x : Labelling). addOutcome x (bufferAfter el buffer size telemetry)) (sym (added .answer-is) ∙ e)
 
-  module _ (lengths : (eqb (length elements) 52 && eqb (length answer) 28) ≡ true) where
-    pub by-answer : {r : Labelling} → r ≡ adding (elementsOf elements) buffer size telemetry
-        → addCall elements buffer size telemetry answer ≡ addEnded r (bufferAfter (elementsOf elements) buffer size telemetry) buffer answer
-    unfolding addCall
-    by-answer e = rw (lengths, addCall) (ap (λ (r : Labelling). addEnded r (bufferAfter (elementsOf elements) buffer size telemetry) buffer answer) (sym e))
+  pub add-rejected : {refusal : Refusal} {place : ℕ} → r ≡ Refused refusal place
+      → addOutcome (adding el buffer size telemetry) (bufferAfter el buffer size telemetry) ≡ rejected (statusAt (numberOf refusal) place)
+  add-rejected e = outcome-is e
 
-    module _ {after : List ℕ} {r : Labelling} (added : AddedTo (elementsOf elements) buffer size telemetry after r) where
-      pub ends-refused : {refusal : Refusal} {place status : ℕ} → r ≡ Refused refusal place → status ≡ statusAt (numberOf refusal) place
-          → _≡_ {A = AddCall} (record { status = status; buffer = after; answer = answer }) (addCall elements buffer size telemetry answer)
-      ends-refused {refusal} {place} e s =
-          let answer-is = sym e ∙ added .answer-is in
-          let same = added .buffer-is ∙ sym (adding-refused (elementsOf elements) buffer size telemetry (sym answer-is) .buffer-is) in
-          (λ i. record { status = s i; buffer = same i; answer = answer }) ∙ sym (by-answer answer-is)
+  pub add-written : {counts : Counts} {end : ℕ} → r ≡ Labelled counts end
+      → addOutcome (adding el buffer size telemetry) (bufferAfter el buffer size telemetry) ≡ written (bufferAfter el buffer size telemetry) (addBytes counts end)
+  add-written e = outcome-is e
 
-      pub ends-added : {counts : Counts} {end : ℕ} {out : List ℕ} → r ≡ Labelled counts end → out ≡ addBytes counts end
-          → _≡_ {A = AddCall} (record { status = 0; buffer = after; answer = out }) (addCall elements buffer size telemetry answer)
-      ends-added {counts} {end} e o =
-          let buffer-is = added .buffer-is in
-          (λ i. record { status = 0; buffer = buffer-is i; answer = o i }) ∙ sym (by-answer (sym e ∙ added .answer-is))
+  pub unchanged : {refusal : Refusal} {place : ℕ} → r ≡ Refused refusal place → after ≡ buffer
+  unchanged e = added .buffer-is ∙ sym (adding-refused el buffer size telemetry (sym (added .answer-is) ∙ e) .buffer-is)

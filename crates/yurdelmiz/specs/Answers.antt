@@ -79,6 +79,10 @@ readBytes form c = countsBytes c ++ bytes4 (trailerSize form)
 unfoldable pub addBytes : Counts → ℕ → List ℕ
 addBytes c size = bytes8 size ++ countsBytes c
 
+-- 12 bytes: the labels kept, and the bytes dropped
+unfoldable pub salvageBytes : ℕ → ℕ → List ℕ
+salvageBytes labels dropped = bytes4 labels ++ bytes8 dropped
+
 -- in place of a figure that a file's trailer does not hold
 unfoldable pub notHeld : ℕ
 notHeld = 2 ^ 32 - 1

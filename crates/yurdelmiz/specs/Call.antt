@@ -23,6 +23,29 @@ unfoldable pub callOf : Bool → Outcome → List ℕ → Call
 callOf lengths outcome buffer =
     elim lengths [ true ↦ ended outcome buffer | false ↦ record { status = 255; answer = buffer } ]
 
--- the status of a refusal that has a place: the number in the lower half, the place in the upper
+-- ---- a call that writes a buffer beside its answer: adding its `buffer`, salvage its `output`
+
+pub record BufferCall : Type 0 where
+  pub status : ℕ
+  pub buffer : List ℕ
+  pub answer : List ℕ
+
+-- what is asked for is refused with a status, or written: the bytes of the buffer, and of the answer
+pub data BufferOutcome : Type 0 where
+  rejected : ℕ → BufferOutcome
+  written : List ℕ → List ℕ → BufferOutcome
+
+-- a refusal leaves both as they were
+abbrev pub bufferEnded : BufferOutcome → List ℕ → List ℕ → BufferCall
+bufferEnded (rejected status) buffer answer = record { status = status; buffer = buffer; answer = answer }
+bufferEnded (written after bytes) buffer answer = record { status = 0; buffer = after; answer = bytes }
+
+unfoldable pub bufferCallOf : Bool → BufferOutcome → List ℕ → List ℕ → BufferCall
+bufferCallOf lengths outcome buffer answer =
+    elim lengths [ true ↦ bufferEnded outcome buffer answer | false ↦ record { status = 255; buffer = buffer; answer = answer } ]
+
+-- ---- a refusal that has a place
+
+-- its status: the number in the lower half, the place in the upper
 abbrev pub statusAt : ℕ → ℕ → ℕ
 statusAt number place = number + 2 ^ 32 * place

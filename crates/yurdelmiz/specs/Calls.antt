@@ -1,6 +1,6 @@
 -- What each call of the C interface gives: include/yurdelmiz.h, in its order. Assumes nothing.
 use Prim.Native.Nat.{ℕ}
-use mathlib.Core.Bool.{true, false, _&&_}
+use mathlib.Core.Bool.{_&&_}
 use mathlib.Core.List.{List, [], _∷_}
 use lib.Dec.{eqb}
 use lib.IntN.{ℤ}
@@ -37,10 +37,13 @@ use Rattle.labelling.specs.Adding.{adding, bufferAfter}
 use Rattle.labelling.specs.Day.{labelling, outputAfter}
 use Rattle.labelling.specs.declared.Labelling.{Labelling}
 use Rattle.labelling.specs.declared.Labelling.the-variants as labelling
-use Rattle.yurdelmiz.specs.Answers.{anomalyBytes, sunBytes, stateBytes, elementsBytes, readBytes, addBytes, notHeld}
+use Rattle.salvage.specs.Salvage.{salvaging, salvagedOutput}
+use Rattle.salvage.specs.declared.Salvage.{Salvage}
+use Rattle.salvage.specs.declared.Salvage.the-variants as salvage
+use Rattle.yurdelmiz.specs.Answers.{anomalyBytes, sunBytes, stateBytes, elementsBytes, readBytes, addBytes, salvageBytes, notHeld}
 use Rattle.yurdelmiz.specs.Buffers.{elementsOf}
 use Rattle.yurdelmiz.specs.Faults.{faultNumber, faultPlace}
-use Rattle.yurdelmiz.specs.Call.{Call, Outcome, refused, given, callOf, statusAt}
+use Rattle.yurdelmiz.specs.Call.{Call, Outcome, refused, given, callOf, BufferCall, BufferOutcome, rejected, written, bufferCallOf, statusAt}
 
 -- ---- yurdelmiz_kepler
 abbrev pub anomalyOutcome : Solution → Outcome
@@ -101,25 +104,15 @@ labelCall elements telemetry output =
     callOf (eqb (length elements) 52) (dayOutcome (elementsOf elements) telemetry output) output
 
 -- ---- yurdelmiz_add
--- the status returned, and the bytes of `buffer` and `answer` afterwards
-pub record AddCall : Type 0 where
-  pub status : ℕ
-  pub buffer : List ℕ
-  pub answer : List ℕ
+abbrev pub addOutcome : Labelling → List ℕ → BufferOutcome
+addOutcome (labelling.Refused refusal place) after = rejected (statusAt (numberOf refusal) place)
+addOutcome (labelling.Labelled counts size) after = written after (addBytes counts size)
 
--- a refusal leaves both as they were
-abbrev pub addEnded : Labelling → List ℕ → List ℕ → List ℕ → AddCall
-addEnded (labelling.Refused refusal place) after buffer answer =
-    record { status = statusAt (numberOf refusal) place; buffer = buffer; answer = answer }
-addEnded (labelling.Labelled counts size) after buffer answer = record { status = 0; buffer = after; answer = addBytes counts size }
-
-unfoldable pub addCall : List ℕ → List ℕ → ℕ → List ℕ → List ℕ → AddCall
+unfoldable pub addCall : List ℕ → List ℕ → ℕ → List ℕ → List ℕ → BufferCall
 addCall elements buffer size telemetry answer =
     let el = elementsOf elements in
-    elim (eqb (length elements) 52 && eqb (length answer) 28) [
-      | true ↦ addEnded (adding el buffer size telemetry) (bufferAfter el buffer size telemetry) buffer answer
-      | false ↦ record { status = 255; buffer = buffer; answer = answer }
-    ]
+    bufferCallOf (eqb (length elements) 52 && eqb (length answer) 28)
+    (addOutcome (adding el buffer size telemetry) (bufferAfter el buffer size telemetry)) buffer answer
 
 -- ---- yurdelmiz_read
 abbrev pub readOutcome : FileReading → Outcome
@@ -137,3 +130,12 @@ darkTestOutcome (tail.Held labels) = given (bytes4 labels)
 
 unfoldable pub darkTestCall : List ℕ → ℕ → List ℕ → Call
 darkTestCall bytes size buffer = callOf (eqb (length buffer) 4) (darkTestOutcome (tailReading bytes size)) buffer
+
+-- ---- yurdelmiz_salvage
+abbrev pub salvageOutcome : Salvage → List ℕ → BufferOutcome
+salvageOutcome (salvage.Refused refusal) after = rejected (numberOf refusal)
+salvageOutcome (salvage.Kept labels dropped) after = written after (salvageBytes labels dropped)
+
+unfoldable pub salvageCall : List ℕ → List ℕ → List ℕ → BufferCall
+salvageCall body output answer =
+    bufferCallOf (eqb (length answer) 12) (salvageOutcome (salvaging body (length output)) (salvagedOutput body output)) output answer

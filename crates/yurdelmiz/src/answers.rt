@@ -10,7 +10,7 @@ ghost use mir.Val.{ofZ};
 ghost use Rattle.endian.specs.LittleEndian.{bytes4};
 ghost use Rattle.integer.specs.Bound.{Within};
 ghost use Rattle.sun.specs.Contract.{WithinOne};
-ghost use Rattle.yurdelmiz.specs.Answers.{words, anomalyBytes, sunBytes, positionBytes, stateBytes, elementsBytes, countsBytes, readBytes, addBytes};
+ghost use Rattle.yurdelmiz.specs.Answers.{words, anomalyBytes, sunBytes, positionBytes, stateBytes, elementsBytes, countsBytes, readBytes, addBytes, salvageBytes};
 ghost use Rattle.yurdelmiz.specs.Call.{statusAt};
 ghost use Rattle.yurdelmiz.specs.Faults.{faultNumber, faultPlace};
 use elements_file::Fault;
@@ -143,6 +143,14 @@ pub(crate) fn write_adding(answer: &mut [u8], counts: Counts, size: usize)
 {
     endian::write_u64(answer, 0, size as u64);
     write_counts(answer, 8, counts);
+}
+
+pub(crate) fn write_salvage(answer: &mut [u8], labels: u32, dropped: usize)
+    requires { ⌜ length (now answer) ≡ 12 ⌝ }
+    ensures { λ _. ⌜ now (answer .exit) ≡ salvageBytes labels dropped ⌝ }
+{
+    endian::write_u32(answer, 0, labels);
+    endian::write_u64(answer, 4, dropped as u64);
 }
 
 // In place of a figure that a file's trailer does not hold: no file has as many labels.

@@ -2,7 +2,7 @@
 ghost use mathlib.Core.Path.{_≡_};
 ghost use Rattle.trig.specs.Contract.{CosineAt};
 ghost use Rattle.trig.specs.ExactSine.{SineAt};
-ghost use Rattle.yurdelmiz.specs.Calls.{keplerCall, sunCall, positionCall, shadeCall, elementsCall, labelCall, addCall, readCall, darkTestCall};
+ghost use Rattle.yurdelmiz.specs.Calls.{keplerCall, sunCall, positionCall, shadeCall, elementsCall, labelCall, addCall, readCall, darkTestCall, salvageCall};
 use eclipse::ShadeAnswer;
 use elements_file::Parsed;
 use kepler::Solution;
@@ -11,6 +11,7 @@ use label_file::TailReading;
 use labelling::Labelling;
 use orbit::Placement;
 use position::Position;
+use salvage::Salvage;
 use sun::Direction;
 use sun::SunAnswer;
 
@@ -215,6 +216,23 @@ pub extern "C" fn yurdelmiz_dark_test(tail: &[u8], size: u64, answer: &mut [u8])
         }
         TailReading::Held(labels) => {
             answers::write_figure(answer, labels);
+            0
+        }
+    }
+}
+
+#[no_mangle]
+pub extern "C" fn yurdelmiz_salvage(body: &[u8], output: &mut [u8], answer: &mut [u8]) -> u32
+    ensures { λ r. ⌜ record { status = r; buffer = now (output .exit); answer = now (answer .exit) } ≡ salvageCall (now (body .entry)) (now (output .entry)) (now (answer .entry)) ⌝ }
+{
+    if answer.len() != 12 {
+        return BAD_BUFFER;
+    }
+    let salvaged = salvage::keep_labels(body, output);
+    match salvaged {
+        Salvage::Refused(refusal) => refusal.number(),
+        Salvage::Kept(labels, dropped) => {
+            answers::write_salvage(answer, labels, dropped);
             0
         }
     }

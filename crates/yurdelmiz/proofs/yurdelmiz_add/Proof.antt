@@ -7,16 +7,20 @@ use lib.ListN.{length}
 use denote.Ref.{now}
 use Rattle.labelling.specs.Contract.{AddedTo}
 use Rattle.yurdelmiz.specs.Buffers.{elementsOf}
-use Rattle.yurdelmiz.proofs.Additions.{bad-lengths, ends-refused, ends-added}
+use Rattle.yurdelmiz.specs.Calls.{addCall}
+use Rattle.yurdelmiz.proofs.Endings.{bad-buffers, ends-rejected, ends-written}
+use Rattle.yurdelmiz.proofs.Additions.{add-rejected, add-written, unchanged}
 use borrow.Author.Needs.{needs}
 use Rattle.yurdelmiz.proofs.yurdelmiz_add.Statement.{statement}
 use Rattle.yurdelmiz.proofs.yurdelmiz_add.Tie as tie
 
 returns : tie.Need-returns
-returns c = bad-lengths _ _ _ _ _ (rw (ne-eqb _ 52 (c .if1 .taken)))
+unfolding addCall
+returns c = bad-buffers _ _ _ _ (rw (ne-eqb _ 52 (c .if1 .taken)))
 
 returns-2 : tie.Need-returns-2
-returns-2 c = bad-lengths _ _ _ _ _ (rw (eq-eqb _ 52 (c .before .if1 .left), ne-eqb _ 28 (c .if2 .taken)))
+unfolding addCall
+returns-2 c = bad-buffers _ _ _ _ (rw (eq-eqb _ 52 (c .before .if1 .left), ne-eqb _ 28 (c .if2 .taken)))
 
 -- both lengths are the header's
 lengths : (c : tie.Else2) → let a = c .before .before .before .before .before .before .args in (eqb (length (now (a .elements))) 52 && eqb (length (now (a .answer))) 28) ≡ true
@@ -27,15 +31,20 @@ added-is : (c : tie.After-add) → let a = c .before .before .before .before .be
 added-is c = rw (c .before .before .read-elements .ensures) at (c .add .ensures)
 
 returns-3 : tie.Need-returns-3
+unfolding addCall
 returns-3 c =
     let d = c .before .before .before .before .before .before .before in
-    ends-refused _ _ _ _ _ (lengths (d .before .before .before)) (added-is d) (c .before .before .before .added .given .1) (rw (c .before .number .ensures) at (c .status-at .ensures))
+    let a = added-is d in
+    let r = c .before .before .before .added .given .1 in
+    ends-rejected _ _ _ _ (rw (c .before .number .ensures) at (c .status-at .ensures)) (unchanged a r) (lengths (d .before .before .before)) (add-rejected a r)
 
 returns-4 : tie.Need-returns-4
+unfolding addCall
 returns-4 c =
     let d = c .before .before .before .before .before .before .before .before .before in
     let w = c .before .before in
-    ends-added _ _ _ _ _ (lengths (d .before .before .before)) (added-is d) (w .before .before .before .added2 .given .1) (w .write-adding .ensures)
+    let a = added-is d in
+    ends-written _ _ _ _ (a .buffer-is) (w .write-adding .ensures) (lengths (d .before .before .before)) (add-written a (w .before .before .before .added2 .given .1))
 
 pub yurdelmiz-add-spec : {M : Type 1} → statement M
 yurdelmiz-add-spec =

@@ -1,0 +1,4 @@
+pub mod Salvage
+pub mod CutFile
+pub mod Start
+pub mod Contract
