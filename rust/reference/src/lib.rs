@@ -12,6 +12,7 @@ pub mod label;
 pub mod listing;
 pub mod orbit;
 pub mod refusal;
+pub mod salvage;
 pub mod sine;
 pub mod sun;
 pub mod tail;

@@ -3,6 +3,7 @@
 use reference::eclipse::shade;
 use reference::file::{add, label_day, read};
 use reference::orbit::Position;
+use reference::salvage::{salvage, Salvaged};
 use reference::sun::{sun, Direction};
 use reference::tail::dark_test;
 use reference::trailer::Counts;
@@ -97,6 +98,11 @@ impl Labeller for Reference {
 
     fn tail(&self, tail: &[u8], length: u64) -> Result<Option<u32>, u32> {
         dark_test(tail, length).map_err(Refusal::number)
+    }
+
+    fn salvage(&self, bytes: &[u8], output: &mut [u8]) -> Result<(u32, u64), u32> {
+        let Salvaged { labels, dropped } = salvage(bytes, output).map_err(Refusal::number)?;
+        Ok((labels, dropped))
     }
 }
 

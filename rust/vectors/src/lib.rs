@@ -4,12 +4,13 @@ use std::fmt::Display;
 use std::str::{FromStr, SplitWhitespace};
 
 /// The vectors, with the number of their lines; the head of a file says what a line holds.
-const VECTORS: [(&str, usize); 2] = [
+const VECTORS: [(&str, usize); 3] = [
     (include_str!("../../../vectors/K04.txt"), 1_760),
     (include_str!("../../../vectors/K05.txt"), 410),
+    (include_str!("../../../vectors/K12.txt"), 152),
 ];
 
-/// What the output holds before labelling.
+/// What an output holds before a call.
 const FILL: u8 = 0xaa;
 
 /// A refusal's number and place.
@@ -51,6 +52,8 @@ pub trait Labeller {
     ) -> Result<usize, Refused>;
     /// The dark test labels by the last bytes of a file and its length, or none where they are not held.
     fn tail(&self, tail: &[u8], length: u64) -> Result<Option<u32>, u32>;
+    /// The labels kept, and the bytes dropped.
+    fn salvage(&self, bytes: &[u8], output: &mut [u8]) -> Result<(u32, u64), u32>;
 }
 
 /// The words of a line's inputs, taken one after another.
@@ -116,6 +119,19 @@ fn hex(bytes: &[u8]) -> String {
     bytes.iter().map(|byte| format!("{byte:02x}")).collect()
 }
 
+/// What a call gives and leaves in an output of `room` bytes; a refusal leaves it as it was.
+fn lend<T, E>(
+    room: usize,
+    call: impl FnOnce(&mut [u8]) -> Result<T, E>,
+) -> Result<(T, Vec<u8>), E> {
+    let mut output = vec![FILL; room];
+    let outcome = call(&mut output);
+    if outcome.is_err() {
+        assert!(output.iter().all(|byte| *byte == FILL), "a refusal wrote");
+    }
+    outcome.map(|given| (given, output))
+}
+
 /// What the labeller answers to a line, as the line would have it.
 fn answer(labeller: &impl Labeller, subject: &str, mut inputs: Inputs) -> String {
     match subject {
@@ -131,12 +147,8 @@ fn answer(labeller: &impl Labeller, subject: &str, mut inputs: Inputs) -> String
         "label" => {
             let elements = inputs.elements();
             let telemetry = inputs.bytes();
-            let mut output = vec![FILL; inputs.number()];
-            let outcome = labeller.label(elements, &telemetry, &mut output);
-            if outcome.is_err() {
-                assert!(output.iter().all(|byte| *byte == FILL), "a refusal wrote");
-            }
-            outcome.map_or_else(refused_at, |()| accepted([hex(&output)]))
+            lend(inputs.number(), |output| labeller.label(elements, &telemetry, output))
+                .map_or_else(refused_at, |((), output)| accepted([hex(&output)]))
         }
         "read" => labeller.read(&inputs.bytes()).map_or_else(refused_at, accepted),
         "add" => {
@@ -156,6 +168,15 @@ fn answer(labeller: &impl Labeller, subject: &str, mut inputs: Inputs) -> String
             Ok(None) => "unheld".to_string(),
             Err(number) => refused(number),
         },
+        "salvage" => {
+            let bytes = inputs.bytes();
+            lend(inputs.number(), |output| labeller.salvage(&bytes, output)).map_or_else(
+                refused,
+                |((kept, dropped), output)| {
+                    accepted([kept.to_string(), dropped.to_string(), hex(&output)])
+                },
+            )
+        }
         _ => panic!("no subject {subject}"),
     }
 }
