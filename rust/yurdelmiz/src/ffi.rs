@@ -38,6 +38,8 @@ pub const READ_BYTES: usize = 24;
 pub const ADD_BYTES: usize = 28;
 /// Length of the answer of [`yurdelmiz_dark_test`].
 pub const DARK_TEST_BYTES: usize = 4;
+/// Length of the answer of [`yurdelmiz_salvage`].
+pub const SALVAGE_BYTES: usize = 12;
 
 /// Length of the `tail` of [`yurdelmiz_dark_test`], of a file that has as many bytes.
 pub const TAIL_BYTES: usize = 24;
@@ -129,6 +131,16 @@ extern "C" {
         tail: *const u8,
         tail_len: usize,
         size: u64,
+        answer: *mut u8,
+        answer_len: usize,
+    ) -> u32;
+
+    /// Keeps the labels at the start of `bytes` as a label file in `output`.
+    pub fn yurdelmiz_salvage(
+        bytes: *const u8,
+        bytes_len: usize,
+        output: *mut u8,
+        output_len: usize,
         answer: *mut u8,
         answer_len: usize,
     ) -> u32;

@@ -5,8 +5,8 @@
 //! a turn, sines and direction components 2^-30, times are seconds from 1990 Jan 0.0.
 //!
 //! ```
-//! use yurdelmiz::{add_to_vec, dark_test, label_to_vec, parse_elements};
-//! use yurdelmiz::{LabelFile, Reading, Sample, Shade, Side};
+//! use yurdelmiz::{add_to_vec, dark_test, label_to_vec, parse_elements, salvage_to_vec};
+//! use yurdelmiz::{LabelFile, Reading, Salvaged, Sample, Shade, Side};
 //!
 //! let elements = parse_elements(
 //!     b"eccentricity 6100000
@@ -38,6 +38,11 @@
 //!
 //! let tail = &bytes[bytes.len() - LabelFile::TAIL..];
 //! assert_eq!(dark_test(tail, bytes.len() as u64)?, Some(counts.dark_test));
+//!
+//! // Cut within the second label: the first is kept.
+//! let (saved, salvaged) = salvage_to_vec(&bytes[..40]);
+//! assert_eq!(salvaged, Salvaged { labels: 1, dropped: 16 });
+//! assert_eq!(saved, label_to_vec(&elements, &sample.to_bytes())?);
 //! # Ok::<(), Box<dyn std::error::Error>>(())
 //! ```
 
@@ -54,6 +59,7 @@ mod label_file;
 mod labelling;
 mod orbit;
 mod refusal;
+mod salvage;
 mod sun;
 mod tail;
 mod telemetry;
@@ -70,6 +76,7 @@ pub use label_file::{read, LabelFile};
 pub use labelling::{add, add_to_vec, label_day, label_to_vec, Added};
 pub use orbit::{position, Position, State};
 pub use refusal::{Refusal, Refused};
+pub use salvage::{salvage, salvage_to_vec, Salvaged};
 pub use sun::{sun, Direction, Sun};
 pub use tail::dark_test;
 pub use telemetry::{Reading, Sample};

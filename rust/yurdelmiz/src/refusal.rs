@@ -27,7 +27,7 @@ pub enum Refusal {
     /// added to.
     TelemetryLength,
     /// 11: shorter than 24 bytes a record and 24; in adding, for the labels of the file too, from the
-    /// first of them on.
+    /// first of them on; in salvage, for the labels kept.
     OutputLength,
     /// 12: a label file's length, a number of its trailer, or how many bytes its tail has.
     Trailer,

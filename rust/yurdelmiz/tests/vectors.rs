@@ -1,7 +1,7 @@
 //! The proved library answers every vector.
 
 use vectors::{Elements, Labeller, Refused};
-use yurdelmiz::{Counts, Direction, Position, Refusal};
+use yurdelmiz::{Counts, Direction, Position, Refusal, Salvaged};
 
 struct Library;
 
@@ -93,6 +93,12 @@ impl Labeller for Library {
 
     fn tail(&self, tail: &[u8], length: u64) -> Result<Option<u32>, u32> {
         yurdelmiz::dark_test(tail, length).map_err(Refusal::number)
+    }
+
+    fn salvage(&self, bytes: &[u8], output: &mut [u8]) -> Result<(u32, u64), u32> {
+        let Salvaged { labels, dropped } =
+            yurdelmiz::salvage(bytes, output).map_err(Refusal::number)?;
+        Ok((labels, dropped))
     }
 }
 
