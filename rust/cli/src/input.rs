@@ -99,6 +99,31 @@ fn skip_to_end(file: &mut File, most: usize) -> io::Result<u64> {
     file.seek(SeekFrom::Start(ahead))
 }
 
+/// The first bytes of a file.
+pub struct First {
+    /// As many as were asked for, or all.
+    pub bytes: Vec<u8>,
+    /// The length of the whole file.
+    pub length: u64,
+}
+
+/// The first `most` bytes of a file of any length and kind. The length of a regular file is the one that it has
+/// when it is opened; what has none is read to its end, and none of that is kept.
+pub fn read_first(path: &Path, most: usize) -> Result<First, Failure> {
+    let mut file = open(path)?;
+    let told = |error: io::Error| unread(path, words(&error));
+    let metadata = file.metadata().map_err(told)?;
+    if metadata.is_file() {
+        let length = metadata.len();
+        let bytes = first_bytes(&file, length, most).map_err(|why| unread(path, why))?;
+        return Ok(First { bytes, length });
+    }
+    let mut bytes = Vec::new();
+    file.by_ref().take(most as u64).read_to_end(&mut bytes).map_err(told)?;
+    let behind = io::copy(&mut file, &mut io::sink()).map_err(told)?;
+    Ok(First { length: bytes.len() as u64 + behind, bytes })
+}
+
 /// The last bytes of a regular file, as many as there is room for or all, and the file's length; or why they
 /// cannot be had. Nothing else of the file is read.
 pub fn read_tail<'a>(path: &Path, room: &'a mut [u8]) -> Result<(&'a [u8], u64), String> {
@@ -112,17 +137,27 @@ pub fn read_tail<'a>(path: &Path, room: &'a mut [u8]) -> Result<(&'a [u8], u64),
     Ok((last_bytes(&file, length, room)?, length))
 }
 
+/// The first bytes of an open file, by the length that it had.
+fn first_bytes(file: &File, length: u64, most: usize) -> Result<Vec<u8>, String> {
+    let mut bytes = vec![0; length.min(most as u64) as usize];
+    bytes_at(file, 0, &mut bytes)?;
+    Ok(bytes)
+}
+
 /// The last bytes of an open file, by the length that it had.
 fn last_bytes<'a>(file: &File, length: u64, room: &'a mut [u8]) -> Result<&'a [u8], String> {
     let number = length.min(room.len() as u64);
     let tail = &mut room[..number as usize];
-    match file.read_exact_at(tail, length - number) {
-        Ok(()) => Ok(tail),
-        Err(error) if error.kind() == io::ErrorKind::UnexpectedEof => {
-            Err("it changed while it was read".to_owned())
-        }
-        Err(error) => Err(words(&error)),
-    }
+    bytes_at(file, length - number, tail)?;
+    Ok(tail)
+}
+
+/// The bytes of an open file from a place on, which it had by its length.
+fn bytes_at(file: &File, at: u64, room: &mut [u8]) -> Result<(), String> {
+    file.read_exact_at(room, at).map_err(|error| match error.kind() {
+        io::ErrorKind::UnexpectedEof => "it changed while it was read".to_owned(),
+        _ => words(&error),
+    })
 }
 
 /// That a file has a length.
@@ -163,15 +198,21 @@ mod tests {
         fs::write(&path, &bytes).unwrap();
         let file = File::open(&path).unwrap();
         fs::remove_file(&path).unwrap();
+        let changed = "it changed while it was read".to_owned();
         let mut room = [0; 24];
         assert_eq!(last_bytes(&file, 30, &mut room), Ok(&bytes[6..]));
+        assert_eq!(first_bytes(&file, 30, 24), Ok(bytes[..24].to_vec()));
+        assert_eq!(first_bytes(&file, 30, 40), Ok(bytes.clone()));
         for length in [31, 53, 54, 55, 1 << 40] {
-            let told = last_bytes(&file, length, &mut room);
-            assert_eq!(told, Err("it changed while it was read".to_owned()), "{length}");
+            assert_eq!(last_bytes(&file, length, &mut room), Err(changed.clone()), "{length}");
+            assert_eq!(first_bytes(&file, length, 31), Err(changed.clone()), "{length}");
+            // All that are asked for are there.
+            assert_eq!(first_bytes(&file, length, 30), Ok(bytes.clone()), "{length}");
         }
         // It was written to: the bytes are those of the length.
-        assert_eq!(last_bytes(&file, 24, &mut room), Ok(&bytes[..24]));
-        assert_eq!(last_bytes(&file, 3, &mut room), Ok(&bytes[..3]));
-        assert_eq!(last_bytes(&file, 0, &mut room), Ok(&[][..]));
+        for length in [24, 3, 0] {
+            assert_eq!(last_bytes(&file, length as u64, &mut room), Ok(&bytes[..length]));
+            assert_eq!(first_bytes(&file, length as u64, 24), Ok(bytes[..length].to_vec()));
+        }
     }
 }

@@ -1,4 +1,4 @@
-//! The label file that `label` and `add` write, and what they say then.
+//! The label file that `label`, `add` and `salvage` write: what is asked of it, and what the first two say then.
 
 use std::path::Path;
 
@@ -23,10 +23,10 @@ pub fn check(command: &Command, path: &Path, inputs: &[&Path]) -> Result<(), Fai
     output::check(command, path, inputs)
 }
 
-/// Writes the file, and says its counts behind what else is to be said.
+/// Writes the file that was labelled, and says its counts behind what else is to be said.
 pub fn write(path: &Path, file: &[u8], ahead: &str, counts: Counts) -> Result<(), Failure> {
     output::write(path, file)?;
     let Counts { labels, training, test, .. } = counts;
-    stdout::print(&format!("{ahead}labelled {labels} training {training} test {test}\n"))
-        .map_err(|failure| failure.after(format!("{} is written", quote::path(path))))
+    let line = format!("{ahead}labelled {labels} training {training} test {test}\n");
+    stdout::print_after(path, &line)
 }

@@ -25,6 +25,7 @@ mod plot;
 mod quote;
 mod refused_day;
 mod refused_file;
+mod salvage;
 #[allow(unsafe_code)]
 mod signals;
 mod stdout;
@@ -40,8 +41,14 @@ use arguments::Command;
 use failure::Failure;
 
 /// The subcommands beside `help`.
-const COMMANDS: [&Command; 5] =
-    [&label::COMMAND, &add::COMMAND, &list::COMMAND, &dark_test::COMMAND, &plot::COMMAND];
+const COMMANDS: [&Command; 6] = [
+    &label::COMMAND,
+    &add::COMMAND,
+    &list::COMMAND,
+    &dark_test::COMMAND,
+    &salvage::COMMAND,
+    &plot::COMMAND,
+];
 
 fn run(words: &[OsString]) -> Result<(), Failure> {
     let Some((first, rest)) = words.split_first() else {

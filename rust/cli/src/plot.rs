@@ -47,6 +47,5 @@ fn run(arguments: &Arguments) -> Result<(), Failure> {
         satellite: satellite.map(|name| name.to_string_lossy().into_owned()),
     };
     output::write(out, picture::draw(&names, &labels).as_bytes())?;
-    stdout::print(&format!("drawn {}\n", labels.len()))
-        .map_err(|failure| failure.after(format!("{} is written", quote::path(out))))
+    stdout::print_after(out, &format!("drawn {}\n", labels.len()))
 }

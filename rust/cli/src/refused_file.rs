@@ -197,7 +197,7 @@ fn side_of(revolution: &[u8]) -> Option<Side> {
 }
 
 /// The first rule that a label breaks, in document 01's order.
-fn field_fault(label: &[u8]) -> String {
+pub fn field_fault(label: &[u8]) -> String {
     // This part alone, in a label that is otherwise all zeros.
     let breaks = |part: Range<usize>| {
         let mut alone = [0; Label::SIZE];

@@ -53,6 +53,11 @@ fn mistakes() {
         "dark-test has no option '--csv': a file whose name begins with - stands after --",
     );
     mistake(&["dark_test", "a"], "there is no command 'dark_test': did you mean dark-test?");
+    mistake(&["salvage"], "salvage: DAMAGED and LABELS are missing");
+    mistake(&["salvage", "elements"], "salvage: LABELS is missing");
+    mistake(&["salvage", "elements", ""], "salvage: LABELS is empty");
+    mistake(&["salvage", "a", "b", "c"], "salvage: 'c' is one word too many");
+    mistake(&["savlage", "a", "b"], "there is no command 'savlage': did you mean salvage?");
     mistake(&["plot", "a"], "plot: OUT.svg is missing");
     mistake(&["plot", "a", "b.svg", "--satellite"], "--satellite is given without its NAME");
     mistake(&["help", "nonsense"], "there is no command 'nonsense'");
@@ -65,10 +70,11 @@ fn mistakes() {
         &["plot", "out.svg", "elements"],
         "plot: elements does not end in .svg, and the picture is SVG: the order is LABELS OUT.svg",
     );
-    for command in ["label", "add"] {
+    let inputs = ["elements", "telemetry"];
+    for (command, inputs) in [("label", &inputs[..]), ("add", &inputs), ("salvage", &inputs[..1])] {
         for ending in ["csv", "JSON", "svg"] {
             mistake(
-                &[command, "elements", "telemetry", &format!("out.{ending}")],
+                &[&[command], inputs, &[&format!("out.{ending}")]].concat(),
                 &format!(
                     "{command}: LABELS would be out.{ending}, and a label file is none of that kind; list \
                      --csv, list --json and plot make those from it"
@@ -110,7 +116,7 @@ fn help() {
     for words in [&["--help"][..], &["-h"], &["help", "help"], &["help", "--help"]] {
         folder.run(words).is(0, &general.stdout);
     }
-    for name in ["label", "add", "list", "dark-test", "plot"] {
+    for name in ["label", "add", "list", "dark-test", "salvage", "plot"] {
         let text = folder.run(["help", name]);
         text.fails(0);
         let usage = text.stdout.lines().next().unwrap();
