@@ -1,7 +1,7 @@
 //! Times the proved library beside the reference, in one run.
 //!
 //!     bench [REPEATS]
-//!     bench once RECORDS      labels and reads one day, for a counter of instructions
+//!     bench once RECORDS      labels, reads and salvages one day, for a counter of instructions
 //!     bench kepler ECCENTRICITY SOLUTIONS     solves Kepler's equation, for the same
 //!     bench root ROOTS        takes square roots, for the same
 //!
@@ -179,8 +179,8 @@ fn label(repeats: usize, records: usize) -> Comparison {
     comparison
 }
 
-/// Labels a day and reads it, once by the library and once by the reference: to be run under a
-/// counter of instructions.
+/// Labels a day, reads it and salvages it without its trailer, once by the library and once by the reference:
+/// to be run under a counter of instructions.
 fn once(records: usize) {
     let day = telemetry(records);
     let mut files = [vec![0; file_bytes(records)], vec![0; file_bytes(records)]];
@@ -190,6 +190,17 @@ fn once(records: usize) {
     black_box(yurdelmiz::read(library, library.len()).expect("a sound file"));
     black_box(reference::file::read(reference, reference.len()).expect("a sound file"));
     assert_eq!(files[0], files[1], "the two label files");
+    let cut = without_trailer(&files[0]);
+    let mut saved = [vec![0; file_bytes(records)], vec![0; file_bytes(records)]];
+    let [library, reference] = &mut saved;
+    black_box(yurdelmiz::salvage(cut, library).expect("enough room"));
+    black_box(reference::salvage::salvage(cut, reference).expect("enough room"));
+    assert_eq!(files, saved, "what is salvaged");
+}
+
+/// The labels of a file that labelling wrote.
+fn without_trailer(file: &[u8]) -> &[u8] {
+    &file[..file.len() - file_bytes(0)]
 }
 
 /// The longest day's file.
@@ -230,6 +241,27 @@ fn dark_test(repeats: usize) -> Comparison {
             black_box(figure.expect("a sound file"));
         },
     )
+}
+
+/// The same file without its trailer, salvaged.
+fn salvage(repeats: usize) -> Comparison {
+    let file = longest_file();
+    let cut = without_trailer(&file);
+    let mut outputs = [vec![0; file.len()], vec![0; file.len()]];
+    let [library_output, reference_output] = &mut outputs;
+    let comparison = compare(
+        repeats,
+        &mut || {
+            let salvaged = yurdelmiz::salvage(black_box(cut), library_output);
+            black_box(salvaged.expect("enough room"));
+        },
+        &mut || {
+            let salvaged = reference::salvage::salvage(black_box(cut), reference_output);
+            black_box(salvaged.expect("enough room"));
+        },
+    );
+    assert!(outputs.iter().all(|output| *output == file), "what is salvaged");
+    comparison
 }
 
 /// Eccentricities of a nearly circular orbit, of Oscar-10 and of the limit.
@@ -345,6 +377,7 @@ fn main() {
     print("the square root", &root(repeats));
     print("reading 1,024 labels", &read(repeats));
     print("asking their tail", &dark_test(repeats));
+    print("salvaging them", &salvage(repeats));
     print("labelling 1,024 records", &label(repeats, DAY_RECORDS));
 
     println!("growth of labelling, a record: library, reference, library / reference");

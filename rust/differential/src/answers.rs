@@ -1,5 +1,6 @@
 //! The library's answers about files as the reference gives them.
 
+use reference::salvage::Salvaged;
 use reference::trailer::{Counts, Form};
 
 /// A refusal's number and place.
@@ -15,6 +16,11 @@ pub fn form(form: yurdelmiz::Form) -> Form {
         yurdelmiz::Form::Bytes16 => Form::Bytes16,
         yurdelmiz::Form::Bytes24 => Form::Bytes24,
     }
+}
+
+pub fn salvaged(salvaged: yurdelmiz::Salvaged) -> Salvaged {
+    let yurdelmiz::Salvaged { labels, dropped } = salvaged;
+    Salvaged { labels, dropped }
 }
 
 pub fn library_refused(refused: yurdelmiz::Refused) -> Refused {

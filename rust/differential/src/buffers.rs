@@ -1,11 +1,14 @@
 //! Checks of what the C interface does with lent bytes: a refusal changes none, a wrong length is
 //! told apart from every refusal, and nothing outside an answer is written.
 
+use reference::file::file_bytes;
+use reference::label::LABEL_BYTES;
 use reference::trailer::{Counts, Form};
 use yurdelmiz::ffi;
 
 use crate::elements_files;
 use crate::inputs;
+use crate::label_files;
 use crate::numbers::library_elements;
 use crate::random::Random;
 use crate::report::Report;
@@ -101,6 +104,38 @@ fn add_with_any_lengths(random: &mut Random, report: &mut Report) {
     }
 }
 
+/// A file of a few labels, whole or cut, with the room that it needs or about as much.
+fn salvage_with_any_lengths(random: &mut Random, report: &mut Report) {
+    let labels = random.index(3);
+    let mut bytes = label_files::any_fields(random, labels).bytes;
+    bytes.truncate(random.index(2 * bytes.len()));
+    let kept = labels.min(bytes.len() / LABEL_BYTES);
+    let room = file_bytes(kept) + random.pick(&[0, 0, 1, 30]) - random.index(2);
+    let before = random.bytes(room);
+    let mut output = before.clone();
+    let lent = bytes.clone();
+    let mut status = 0;
+    check_answer(random, report, "salvage", ffi::SALVAGE_BYTES, true, |answer, length| {
+        // SAFETY: the slices are `lent`, `output`, and `answer` of `length`.
+        status = unsafe {
+            ffi::yurdelmiz_salvage(
+                lent.as_ptr(),
+                lent.len(),
+                output.as_mut_ptr(),
+                output.len(),
+                answer,
+                length,
+            )
+        };
+        status
+    });
+    let input = ("salvage", status, room);
+    report.bytes(&input, "bytes given", &lent, &bytes);
+    if status != 0 {
+        report.bytes(&input, "output after a refusal", &output, &before);
+    }
+}
+
 fn label_with_bad_elements(random: &mut Random, report: &mut Report) {
     let (elements, sound) = element_bytes(random);
     if sound {
@@ -176,4 +211,6 @@ pub fn lent(random: &mut Random, report: &mut Report) {
             ffi::yurdelmiz_dark_test(tail.as_ptr(), tail.len(), size, answer, length)
         },
     );
+
+    salvage_with_any_lengths(random, report);
 }

@@ -173,6 +173,16 @@ fn damage_label(random: &mut Random, file: &mut File) {
     }
 }
 
+/// Changes fields of one label or more, where there are labels.
+pub fn damage_labels(random: &mut Random, file: &mut File) {
+    if file.labels > 0 {
+        damage_label(random, file);
+        while random.one_in(3) {
+            damage_label(random, file);
+        }
+    }
+}
+
 /// Changes the shade of every label, to one of so many.
 fn change_shades(random: &mut Random, file: &mut File, shades: u64) {
     for number in 0..file.labels {
@@ -317,12 +327,7 @@ pub fn damaged(random: &mut Random) -> Vec<u8> {
                 file.restate();
             }
         }
-        _ if file.labels > 0 => {
-            damage_label(random, &mut file);
-            while random.one_in(3) {
-                damage_label(random, &mut file);
-            }
-        }
+        _ if file.labels > 0 => damage_labels(random, &mut file),
         _ => damage_trailer(random, &mut file),
     }
     file.bytes
@@ -338,6 +343,39 @@ fn any_labels(random: &mut Random, number: usize) -> Vec<u8> {
         label[SHADE] = random.below(3) as u8;
     }
     labels
+}
+
+/// A label of any fields that keep the field rules, often at their edges.
+fn any_label(random: &mut Random) -> [u8; LABEL_BYTES] {
+    let mut label = [0; LABEL_BYTES];
+    let time = inputs::any_time(random).clamp(inputs::TIME_MIN, inputs::TIME_MAX);
+    put(&mut label, 0, &time.to_le_bytes());
+    let revolution =
+        if random.one_in(2) { random.u32() as i32 } else { random.between(-200, 200) as i32 };
+    put(&mut label, 8, &revolution.to_le_bytes());
+    label[SIDE] = Side::of_revolution(revolution) as u8;
+    label[SHADE] = random.below(3) as u8;
+    label[14] = random.below(3) as u8;
+    if label[14] == 1 {
+        let bits = inputs::reading_bits(random);
+        // Without its exponent it is finite.
+        let finite = if f32::from_bits(bits).is_finite() { bits } else { bits & 0x807f_ffff };
+        put(&mut label, 20, &finite.to_le_bytes());
+    }
+    let one = 1 << 30;
+    let sine = match random.below(4) {
+        0 => random.pick(&[-one, one, 0]),
+        _ => random.between(-one, one),
+    };
+    put(&mut label, 16, &(sine as i32).to_le_bytes());
+    label
+}
+
+/// A file that is quickly made, with nothing in front, of which the labels matter.
+pub fn any_fields(random: &mut Random, number: usize) -> File {
+    let labels: Vec<u8> = (0..number).flat_map(|_| any_label(random)).collect();
+    let form = random.pick(&Form::ALL);
+    File::of(random, form, &labels, 0)
 }
 
 /// A file that is quickly made, of which the trailer matters: sound, damaged in its trailer, or cut to about

@@ -2,8 +2,8 @@
 //!
 //!     differential [--seed N] [--count N]
 //!
-//! Each cheap subject gets `count` comparisons (1,000,000 where none is given), elements files and tails a
-//! tenth of it, labelling, reading and adding a hundredth in days and files. The same seed gives the same
+//! Each cheap subject gets `count` comparisons (1,000,000 where none is given), elements files, tails and salvage
+//! a tenth of it, labelling, reading and adding a hundredth in days and files. The same seed gives the same
 //! inputs.
 
 mod additions;
@@ -17,6 +17,7 @@ mod label_files;
 mod numbers;
 mod random;
 mod report;
+mod salvages;
 mod shades;
 mod tails;
 
@@ -56,7 +57,7 @@ fn main() -> ExitCode {
         return ExitCode::from(2);
     };
     println!("seed {seed}");
-    let subjects: [(&str, u64, Subject); 13] = [
+    let subjects: [(&str, u64, Subject); 14] = [
         ("sine", count, numbers::sine),
         ("kepler", count, numbers::kepler),
         ("position", count, numbers::position),
@@ -70,6 +71,7 @@ fn main() -> ExitCode {
         ("revolution", count, numbers::revolution),
         ("add", count / 100, additions::adding),
         ("tail", count / 10, tails::tail),
+        ("salvage", count / 10, salvages::salvage),
     ];
     let mut differences = 0;
     for (number, (name, rounds, compare)) in subjects.into_iter().enumerate() {
