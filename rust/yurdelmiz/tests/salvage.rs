@@ -168,17 +168,9 @@ fn the_room() {
 fn call(bytes: &[u8], room: usize, answer_len: usize) -> (u32, Vec<u8>, [u8; 16]) {
     let mut output = vec![FILL; room];
     let mut answer = [FILL; 16];
+    let (from, to, said) = (bytes.as_ptr(), output.as_mut_ptr(), answer.as_mut_ptr());
     // SAFETY: the slices are `bytes`, `output` and the start of `answer`.
-    let status = unsafe {
-        ffi::yurdelmiz_salvage(
-            bytes.as_ptr(),
-            bytes.len(),
-            output.as_mut_ptr(),
-            output.len(),
-            answer.as_mut_ptr(),
-            answer_len,
-        )
-    };
+    let status = unsafe { ffi::yurdelmiz_salvage(from, bytes.len(), to, room, said, answer_len) };
     (status, output, answer)
 }
 
