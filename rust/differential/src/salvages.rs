@@ -61,10 +61,14 @@ fn damage(random: &mut Random, kind: u64, file: &mut File) {
             file.bytes.extend(behind);
         }
         14 => {
-            // A piece that is missing.
+            // A piece that is missing, or zeros.
             let from = random.index(file.bytes.len());
             let to = from + random.index(file.bytes.len() - from + 1);
-            file.bytes.drain(from..to);
+            if random.one_in(2) {
+                file.bytes.drain(from..to);
+            } else {
+                file.bytes[from..to].fill(0);
+            }
         }
         _ => {
             change_byte(random, &mut file.bytes);

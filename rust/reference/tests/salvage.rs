@@ -205,6 +205,17 @@ fn no_label() {
     keeps(&[0xff; 100], 0);
 }
 
+/// 24 zero bytes keep every field rule, and so does a label whose last 11 bytes became zeros.
+#[test]
+fn zeros() {
+    keeps(&[0; 50], 2);
+    for zeros in 0..=11 {
+        let cut = &EXAMPLE_16[..24 - zeros];
+        keeps(&[cut, &vec![0; zeros + 24]].concat(), 2);
+    }
+    keeps(&[&EXAMPLE_16[..12], &[0; 36]].concat(), 0);
+}
+
 /// Room for the labels kept and the trailer, and no more: exact, a byte short, and none. Of the bytes that are
 /// dropped none asks for room.
 #[test]
