@@ -28,8 +28,9 @@ fn run(arguments: &Arguments) -> Result<(), Failure> {
     let salvaged = Salvaged { dropped: salvaged.dropped + behind, ..salvaged };
     output::write(labels_path, &file)?;
     let Salvaged { labels, dropped } = salvaged;
-    if dropped > 0 {
-        note(format!("{}: {}", quote::path(damaged_path), why_dropped(&damaged, salvaged)));
+    let dropping = (dropped > 0).then(|| why_dropped(&damaged, salvaged));
+    for why in [dropping, zeros(&start[..labels as usize * Label::SIZE])].into_iter().flatten() {
+        note(format!("{}: {why}", quote::path(damaged_path)));
     }
     stdout::print_after(labels_path, &format!("kept {labels} dropped {dropped}\n"))
 }
@@ -53,7 +54,7 @@ fn why_dropped(damaged: &First, salvaged: Salvaged) -> String {
         return "1,024 labels are the most that a file has; all behind them is dropped".to_owned();
     }
     let kept = labels as usize * Label::SIZE;
-    let place = format!("label {labels} (from 0, at byte {})", grouped(kept as u64));
+    let place = place(labels as usize);
     let why = match damaged.bytes.get(kept..kept + Label::SIZE) {
         None => format!("it ends within {place}, or within its trailer"),
         Some(last) if dropped == Label::SIZE as u64 => {
@@ -65,6 +66,24 @@ fn why_dropped(damaged: &First, salvaged: Salvaged) -> String {
         return format!("{why}; it is text, and no label file");
     }
     why
+}
+
+fn place(label: usize) -> String {
+    format!("label {label} (from 0, at byte {})", grouped((label * Label::SIZE) as u64))
+}
+
+/// A warning of labels that were perhaps never written: 24 zeros keep the field rules.
+fn zeros(labels: &[u8]) -> Option<String> {
+    let is_zeros = |label: &[u8]| label.iter().all(|byte| *byte == 0);
+    let labels = || labels.chunks_exact(Label::SIZE);
+    let first = labels().position(is_zeros)?;
+    let number = labels().filter(|label| is_zeros(label)).count();
+    Some(format!(
+        "labels kept that are all zeros: {}, the first {}; zeros keep the rules, and a disk leaves them where \
+         nothing was written: the label ahead of them may be cut as well",
+        grouped(number as u64),
+        place(first)
+    ))
 }
 
 /// The trailer that the library accepts behind the labels kept.

@@ -181,6 +181,33 @@ fn no_label() {
     assert!(folder.read("out") == empty);
 }
 
+/// A disk that left zeros, at the end or between labels: they are kept as labels, and told.
+#[test]
+fn zeros() {
+    let warning = |number, first| {
+        format!(
+            "damaged: labels kept that are all zeros: {number}, the first {first}; zeros keep the rules, and a \
+             disk leaves them where nothing was written: the label ahead of them may be cut as well"
+        )
+    };
+    let zero = [0; 24];
+    let [first, second] = ["label 0 (from 0, at byte 0)", "label 1 (from 0, at byte 24)"];
+    for (labels, number, place) in [
+        (vec![LABEL, zero, zero], "2", second),
+        (vec![LABEL, zero, LABEL], "1", second),
+        (vec![zero], "1", first),
+        (vec![zero; 1_024], "1,024", first),
+    ] {
+        let line = format!("kept {} dropped 0", labels.len());
+        kept(&damaged(labels.concat()), &line, &warning(number, place), &label_file(&labels));
+    }
+    // Behind the reason why the labels end.
+    let folder = damaged([&LABEL[..], &zero, &[0; 9]].concat());
+    let ends = "damaged: it ends within label 2 (from 0, at byte 48), or within its trailer";
+    let told = format!("{ends}\nyurdelmiz: {}", warning("1", second));
+    kept(&folder, "kept 2 dropped 9", &told, &label_file(&[LABEL, zero]));
+}
+
 #[test]
 fn over_the_most_labels() {
     let most = label_file(&[LABEL; 1_024]);

@@ -29,7 +29,7 @@ impl Salvaged {
 /// Keeps the labels at the start of `bytes`, which begin with the first label of a file: each whole 24 bytes,
 /// in order, up to the first that break a field rule, to the end, or to 1,024. They go to the start of `output`,
 /// the trailer of 24 bytes with their counts behind them, and [`read`] accepts that file. A trailer that `bytes`
-/// have is not looked at. Refusal 11, where `output` is too short for the labels kept.
+/// have is taken as any other bytes. Refusal 11, where `output` is too short for the labels kept.
 ///
 /// On a refusal `output` is unchanged; behind the trailer it always is.
 ///
