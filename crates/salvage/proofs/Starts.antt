@@ -1,14 +1,11 @@
 -- Salvage of the start of some bytes: its labels are those of all of them, and the first 24,576 bytes decide. Assumes nothing.
 use mathlib.Core.Path.{_≡_, refl, sym, ap, _∙_}
-use mathlib.Core.Logic.{dite}
 use mathlib.Core.Bool.{Bool, true, false, cond}
-use Prim.Native.Nat.{ℕ, _+_, _*_, _-_, _/_, _≤_}
-use native.Mathlib.Decide.{decLe}
-use native.Mathlib.Nat.{lt-of-not-le}
+use Prim.Native.Nat.{ℕ, _+_, _*_, _≤_}
 use native.Mathlib.Omega.{arith}
 use mathlib.Core.List.{List, _++_}
-use lib.ListN.{length, take, drop, length-append, take-append-drop}
-use lib.Seq.{take-all, take-take, length-take-le}
+use lib.ListN.{length, take, drop, length-take, length-drop}
+use lib.Seq.{take-take}
 use Rattle.refusal.specs.declared.Refusal.the-variants.{OutputLength}
 use Rattle.label.specs.Layout.{labelSize}
 use Rattle.label_file.specs.Sequence.{leading}
@@ -24,70 +21,41 @@ use Rattle.salvage.specs.declared.Salvage.{Salvage}
 use Rattle.salvage.specs.declared.Salvage.the-variants.{Kept, Refused}
 use Rattle.salvage.specs.Salvage.{wholeLabels, keptLabels, keptBytes, keptCounts, droppedBytes, salvagedFile, salvaging, outputBy, salvagedOutput}
 use Rattle.salvage.specs.Start.{mostBytes, dropping, StartDecides}
-use Rattle.salvage.proofs.Kept.{whole-many, whole-few, whole-bounds, kept-few, kept-within}
+use Rattle.salvage.proofs.Written.{kept-few, kept-within}
 
--- ---- any start
-
-module _ (body : List ℕ) (size : ℕ) where
-  abbrev start : List ℕ
-  start = take size body
-
-  pub start-keeps : (k : ℕ) → labelSize * (k + 1) ≤ length (take size body) → keepsAt (take size body) k ≡ keepsAt body k
+-- the whole labels of a start, and their counts
+module _ (body : List ℕ) (size n : ℕ) (held : labelSize * n ≤ length (take size body)) where
+  pub start-leading : leading (keepsAt (take size body)) n ≡ leading (keepsAt body) n
   unfolding keepsAt
-  start-keeps k h = rw (part-start body size k h)
+  start-leading = leading-same (keepsAt (take size body)) (keepsAt body) n (λ k l. rw (part-start body size k (omega arith)))
 
-  start-held : (k : ℕ) → labelSize * (k + 1) ≤ length (take size body) → heldAt (take size body) k ≡ heldAt body k
+  start-counts : countsOf (heldAt (take size body)) n ≡ countsOf (heldAt body) n
   unfolding heldAt
-  start-held k h = rw (part-start body size k h)
-
-  pub start-leading : (n : ℕ) → labelSize * n ≤ length (take size body) → leading (keepsAt (take size body)) n ≡ leading (keepsAt body) n
-  start-leading n h = leading-same (keepsAt start) (keepsAt body) n (λ k l. start-keeps k (omega arith))
-
-  start-counts : (n : ℕ) → labelSize * n ≤ length (take size body) → countsOf (heldAt (take size body)) n ≡ countsOf (heldAt body) n
-  start-counts n h = counts-same (heldAt start) (heldAt body) n (λ k l. start-held k (omega arith))
-
-  pub both-lengths : length (take size body) + length (drop size body) ≡ length body
-  both-lengths = sym (length-append start (drop size body)) ∙ ap length (take-append-drop size body)
-
--- ---- the first 24,576 bytes
-
-whole-most : (size : ℕ) → mostBytes ≤ size → wholeLabels size ≡ 1_024
-whole-most size h = dite (decLe (size / labelSize) 1_024) (λ few. omega (arith, whole-few size few)) (λ many. whole-many size (lt-of-not-le many))
+  start-counts = counts-same (heldAt (take size body)) (heldAt body) n (λ k l. rw (part-start body size k (omega arith)))
 
 module _ (body : List ℕ) where
   abbrev first : List ℕ
   first = take mostBytes body
 
-  whole-same : wholeLabels (length (take mostBytes body)) ≡ wholeLabels (length body)
-  whole-same =
-      dite (decLe mostBytes (length body))
-      (λ h. whole-most (length first) (omega (arith, length-take-le mostBytes body h)) ∙ sym (whole-most (length body) h))
-      (λ h. ap (λ (l : List ℕ). wholeLabels (length l)) (take-all mostBytes body (omega (arith, lt-of-not-le h))))
-
   kept-same : keptLabels (take mostBytes body) ≡ keptLabels body
   unfolding keptLabels
   kept-same =
-      start-leading body mostBytes (wholeLabels (length first)) (whole-bounds (length first) .1) ∙ ap (leading (keepsAt body)) whole-same
+      let whole : wholeLabels (length first) ≡ wholeLabels (length body) = omega (arith, length-take mostBytes body) in
+      start-leading body mostBytes (wholeLabels (length first)) (omega arith) ∙ ap (leading (keepsAt body)) whole
 
   held : labelSize * keptLabels body ≤ length (take mostBytes body)
   held = omega (arith, kept-within first, kept-same)
 
-  counts-same-too : keptCounts (take mostBytes body) ≡ keptCounts body
-  unfolding keptCounts
-  counts-same-too = ap (countsOf (heldAt first)) kept-same ∙ start-counts body mostBytes (keptLabels body) held
-
-  bytes-same : keptBytes (take mostBytes body) ≡ keptBytes body
-  unfolding keptBytes
-  bytes-same =
-      ap (λ (k : ℕ). take (labelSize * k) first) kept-same ∙ take-take (labelSize * keptLabels body) mostBytes body (omega (arith, kept-few body))
-
   file-same : salvagedFile (take mostBytes body) ≡ salvagedFile body
-  unfolding salvagedFile
-  file-same = λ i. bytes-same i ++ trailerBytes Bytes24 (counts-same-too i)
+  unfolding salvagedFile keptBytes keptCounts
+  file-same =
+      let counts = ap (countsOf (heldAt first)) kept-same ∙ start-counts body mostBytes (keptLabels body) held in
+      let bytes = ap (λ (k : ℕ). take (labelSize * k) first) kept-same ∙ take-take (labelSize * keptLabels body) mostBytes body (omega (arith, kept-few body)) in
+      λ i. bytes i ++ trailerBytes Bytes24 (counts i)
 
   dropped-more : droppedBytes body ≡ droppedBytes (take mostBytes body) + length (drop mostBytes body)
   unfolding droppedBytes
-  dropped-more = omega (arith, both-lengths body mostBytes, held, kept-same)
+  dropped-more = omega (arith, length-take mostBytes body, length-drop mostBytes body, held, kept-same)
 
   module _ (output : List ℕ) where
     by-room : (t : Bool) → _≡_ {A = Salvage} (cond t (Refused OutputLength) (Kept (keptLabels body) (droppedBytes body)))
@@ -106,10 +74,10 @@ module _ (body : List ℕ) where
     by-answer (Kept labels dropped) file more = refl
     by-answer (Refused refusal) file more = refl
 
-    output-same : salvagedOutput body output ≡ salvagedOutput (take mostBytes body) output
-    unfolding salvagedOutput
-    output-same =
-        (λ i. outputBy (answer-more i) (sym file-same i) output) ∙ by-answer (salvaging first (length output)) (salvagedFile first) (length (drop mostBytes body))
-
 pub start-decides : StartDecides
-start-decides body output = record { answer-is = answer-more body output; output-is = output-same body output }
+unfolding salvagedOutput
+start-decides body output =
+    record {
+      answer-is = answer-more body output;
+      output-is = (λ i. outputBy (answer-more body output i) (sym (file-same body) i) output) ∙ by-answer body output (salvaging (first body) (length output)) _ _;
+    }

@@ -1,9 +1,7 @@
 -- A sound file with nothing in front, cut anywhere: salvage keeps all whole labels before the cut. Assumes nothing.
 use mathlib.Core.Path.{_≡_}
-use mathlib.Core.Bool.{cond}
-use Prim.Native.Nat.{ℕ, _*_, _-_, _/_, _≤_}
+use Prim.Native.Nat.{ℕ, _*_, _-_, _/_, _≤_, min}
 use mathlib.Core.List.{List}
-use lib.Dec.{ltb}
 use lib.ListN.{length, take}
 use Rattle.label.specs.Layout.{labelSize}
 use Rattle.label_file.specs.Trailer.{distanceBack}
@@ -21,8 +19,8 @@ pub record Sound (file : List ℕ) (form : Form) (counts : Counts) : Type 0 wher
   pub alone : length file ≡ distanceBack form (counts .labels)
 
 -- how many of a file's labels are whole before a cut: all, where it goes through the trailer or behind it
-unfoldable pub wholeBefore : ℕ → ℕ → ℕ
-wholeBefore labels cut = let whole = cut / labelSize in cond (ltb labels whole) labels whole
+abbrev pub wholeBefore : ℕ → ℕ → ℕ
+wholeBefore labels cut = min (cut / labelSize) labels
 
 -- n labels are kept, byte for byte, and what else is left of the file is dropped
 pub record KeptOf (file : List ℕ) (cut n : ℕ) (output : List ℕ) : Type 0 where

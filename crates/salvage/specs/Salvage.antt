@@ -1,8 +1,7 @@
 -- Salvage, of bytes from the first label of a file on: document 01, "Telemetry and labels", and refusal 11. Assumes nothing.
 use mathlib.Core.Bool.{cond}
-use Prim.Native.Nat.{ℕ, _*_, _-_, _/_}
+use Prim.Native.Nat.{ℕ, _*_, _-_, _/_, min}
 use mathlib.Core.List.{List, _++_}
-use lib.Dec.{ltb}
 use lib.ListN.{length, take, drop}
 use Rattle.refusal.specs.declared.Refusal.the-variants.{OutputLength}
 use Rattle.label.specs.Layout.{labelSize}
@@ -16,9 +15,9 @@ use Rattle.label_file.specs.declared.Form.the-variants.{Bytes24}
 use Rattle.salvage.specs.declared.Salvage.{Salvage}
 use Rattle.salvage.specs.declared.Salvage.the-variants.{Kept, Refused}
 
--- the whole 24 bytes of so many, or 1,024
-unfoldable pub wholeLabels : ℕ → ℕ
-wholeLabels size = let whole = size / labelSize in cond (ltb 1_024 whole) 1_024 whole
+-- how many whole 24 bytes are looked at, of so many bytes: up to the end, or 1,024
+abbrev pub wholeLabels : ℕ → ℕ
+wholeLabels size = min (size / labelSize) 1_024
 
 -- every whole 24 bytes, in order, that keep the field rules are kept, up to the first that do not
 unfoldable pub keptLabels : List ℕ → ℕ

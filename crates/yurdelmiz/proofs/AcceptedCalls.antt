@@ -48,7 +48,7 @@ use Rattle.labelling.proofs.WrittenFile.{written-buffer-accepted}
 use Rattle.salvage.specs.Salvage.{salvaging, salvagedOutput}
 use Rattle.salvage.specs.declared.Salvage.{Salvage}
 use Rattle.salvage.specs.declared.Salvage.the-variants as salvage
-use Rattle.salvage.proofs.Written.{kept-bounds, output-accepted}
+use Rattle.salvage.proofs.Written.{kept-says}
 use Rattle.yurdelmiz.specs.Answers.{anomalyBytes, stateBytes, elementsBytes, readBytes, addBytes, salvageBytes, notHeld}
 use Rattle.yurdelmiz.specs.Buffers.{elementsOf}
 use Rattle.yurdelmiz.specs.Faults.{faultNumber, faultPlace}
@@ -268,17 +268,17 @@ salvage-by : (body output answer : List ℕ) (r : Salvage) → salvaging body (l
 unfolding readCall
 salvage-by body output answer (salvage.Refused refusal) e g = absurd (omega (arith, never-0 refusal))
 salvage-by body output answer (salvage.Kept labels dropped) e g =
-    let bounds = kept-bounds body output labels dropped e in
-    let numbers = salvage-back labels dropped (bounds .0) in
+    let says = kept-says body output labels dropped e in
+    let numbers = salvage-back labels dropped (says .0) in
     record {
       labels = labels;
       dropped = dropped;
       salvaged = e;
-      each-byte = bounds .1;
+      each-byte = says .1;
       output-is = g .0;
       labels-are = ap (λ (l : List ℕ). le4 l 0) (g .1) ∙ numbers .0;
-      dropped-are = λ h. ap (λ (l : List ℕ). le8 l 4) (g .1) ∙ numbers .1 (omega (arith, bounds .1));
-      reads-back = λ out k. rw (g .0) (sym (ends-given _ _ out refl (eq-eqb _ 24 k) (ap readOutcome (output-accepted body output labels dropped e))));
+      dropped-are = λ h. ap (λ (l : List ℕ). le8 l 4) (g .1) ∙ numbers .1 (omega (arith, says .1));
+      reads-back = λ out k. rw (g .0) (sym (ends-given _ _ out refl (eq-eqb _ 24 k) (ap readOutcome (says .2))));
     }
 
 pub salvage-accepted : (body output answer : List ℕ) → salvageCall body output answer .status ≡ 0 → SalvageAnswer body output answer

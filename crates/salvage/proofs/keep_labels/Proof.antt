@@ -10,16 +10,9 @@ use Rattle.label_file.specs.Trailer.{distanceBack}
 use Rattle.label_file.specs.declared.Counts.{Counts}
 use Rattle.label_file.specs.declared.Form.the-variants.{Bytes24}
 use Rattle.salvage.specs.Salvage.{keptLabels, keptCounts}
-use Rattle.salvage.proofs.Kept.{whole-bounds, kept-few, kept-within, kept-number, counts-kept}
-use Rattle.salvage.proofs.Written.{start-copied, output-refused, salvaged}
+use Rattle.salvage.proofs.Written.{start-copied, counts-kept, kept-number, kept-few, kept-within, output-refused, salvaged}
 use Rattle.salvage.proofs.keep_labels.Statement.{statement}
 use Rattle.salvage.proofs.keep_labels.Tie as tie
-
-count-labels-requires : tie.Need-count-labels-requires
-count-labels-requires c κs =
-    let b = whole-bounds (length (now (c .before .before .before .args .body))) in
-    let e = c .whole-labels .ensures in
-    (omega (arith, b, e), omega (arith, b, e))
 
 -- the counts are those of the labels kept
 counts-are : (c : tie.After-count-labels) → c .count-labels .result ≡ keptCounts (now (c .before .before .before .before .args .body))
@@ -67,7 +60,7 @@ keep-labels-spec =
     (tie.spec
     (λ c κs. search needs)
     (λ c. search needs)
-    count-labels-requires
+    (λ c κs. search needs)
     (λ c κs. search needs)
     returns
     (λ c. search needs)
