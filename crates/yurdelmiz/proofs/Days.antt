@@ -2,28 +2,21 @@
 use mathlib.Core.Path.{_≡_, sym, ap, _∙_}
 use Prim.Native.Nat.{ℕ}
 use mathlib.Core.List.{List}
-use Rattle.refusal.specs.Numbers.{numberOf}
 use Rattle.refusal.specs.declared.Refusal.{Refusal}
 use Rattle.orbit.specs.declared.elements.Elements.{Elements}
 use Rattle.label_file.specs.File.{fileOf}
-use Rattle.label_file.specs.declared.Counts.{Counts}
 use Rattle.label_file.specs.declared.Form.the-variants.{Bytes24}
 use Rattle.labelling.specs.Contract.{LabelledDay}
 use Rattle.labelling.specs.Records.{records, labelAt, bufferBy}
 use Rattle.labelling.specs.Day.{outputAfter}
 use Rattle.labelling.specs.declared.Labelling.{Labelling}
-use Rattle.labelling.specs.declared.Labelling.the-variants.{Labelled, Refused}
-use Rattle.yurdelmiz.specs.Call.{refused, given, statusAt}
+use Rattle.labelling.specs.declared.Labelling.the-variants.{Refused}
 use Rattle.yurdelmiz.specs.Calls.{labelOutcome, dayOutcome}
 
 module _ {el : Elements} {telemetry output after : List ℕ} {r : Labelling} (day : LabelledDay el telemetry output after r) where
-  pub day-refused : {refusal : Refusal} {place : ℕ} → r ≡ Refused refusal place → dayOutcome el telemetry output ≡ refused (statusAt (numberOf refusal) place)
+  pub day-outcome : {x : Labelling} → r ≡ x → dayOutcome el telemetry output ≡ labelOutcome x (outputAfter el telemetry output)
   unfolding dayOutcome
-  day-refused e = ap (λ (x : Labelling). labelOutcome x (outputAfter el telemetry output)) (sym (day .answer-is) ∙ e)
-
-  pub day-labelled : {counts : Counts} {size : ℕ} → r ≡ Labelled counts size → dayOutcome el telemetry output ≡ given (outputAfter el telemetry output)
-  unfolding dayOutcome
-  day-labelled e = ap (λ (x : Labelling). labelOutcome x (outputAfter el telemetry output)) (sym (day .answer-is) ∙ e)
+  day-outcome e = ap (λ (x : Labelling). labelOutcome x (outputAfter el telemetry output)) (sym (day .answer-is) ∙ e)
 
   pub unchanged : {refusal : Refusal} {place : ℕ} → r ≡ Refused refusal place → after ≡ output
   unfolding outputAfter

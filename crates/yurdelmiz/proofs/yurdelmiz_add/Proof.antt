@@ -9,7 +9,7 @@ use Rattle.labelling.specs.Contract.{AddedTo}
 use Rattle.yurdelmiz.specs.Buffers.{elementsOf}
 use Rattle.yurdelmiz.specs.Calls.{addCall}
 use Rattle.yurdelmiz.proofs.Endings.{bad-buffers, ends-rejected, ends-written}
-use Rattle.yurdelmiz.proofs.Additions.{add-rejected, add-written, unchanged}
+use Rattle.yurdelmiz.proofs.Additions.{add-outcome, unchanged}
 use borrow.Author.Needs.{needs}
 use Rattle.yurdelmiz.proofs.yurdelmiz_add.Statement.{statement}
 use Rattle.yurdelmiz.proofs.yurdelmiz_add.Tie as tie
@@ -36,7 +36,7 @@ returns-3 c =
     let d = c .before .before .before .before .before .before .before in
     let a = added-is d in
     let r = c .before .before .before .added .given .1 in
-    ends-rejected _ _ _ _ (rw (c .before .number .ensures) at (c .status-at .ensures)) (unchanged a r) (lengths (d .before .before .before)) (add-rejected a r)
+    ends-rejected _ _ _ _ (rw (c .before .number .ensures) at (c .status-at .ensures)) (unchanged a r) (lengths (d .before .before .before)) (add-outcome a r)
 
 returns-4 : tie.Need-returns-4
 unfolding addCall
@@ -44,7 +44,7 @@ returns-4 c =
     let d = c .before .before .before .before .before .before .before .before .before in
     let w = c .before .before in
     let a = added-is d in
-    ends-written _ _ _ _ (a .buffer-is) (w .write-adding .ensures) (lengths (d .before .before .before)) (add-written a (w .before .before .before .added2 .given .1))
+    ends-written _ _ _ _ (a .buffer-is) (w .write-adding .ensures) (lengths (d .before .before .before)) (add-outcome a (w .before .before .before .added2 .given .1))
 
 pub yurdelmiz-add-spec : {M : Type 1} → statement M
 yurdelmiz-add-spec =

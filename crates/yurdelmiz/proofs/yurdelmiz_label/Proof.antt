@@ -5,7 +5,7 @@ use Rattle.labelling.specs.Contract.{LabelledDay}
 use Rattle.yurdelmiz.specs.Buffers.{elementsOf}
 use Rattle.yurdelmiz.specs.Calls.{labelCall}
 use Rattle.yurdelmiz.proofs.Endings.{bad-buffer, ends-refused, ends-given}
-use Rattle.yurdelmiz.proofs.Days.{day-refused, day-labelled, unchanged}
+use Rattle.yurdelmiz.proofs.Days.{day-outcome, unchanged}
 use borrow.Author.Needs.{needs}
 use Rattle.yurdelmiz.proofs.yurdelmiz_label.Statement.{statement}
 use Rattle.yurdelmiz.proofs.yurdelmiz_label.Tie as tie
@@ -24,14 +24,14 @@ returns-2 c =
     let d = c .before .before .before .before .before .before .before in
     let l = day-is d in
     let r = c .before .before .before .labelled .given .1 in
-    rw (unchanged l r) (ends-refused _ _ _ (rw (c .before .number .ensures) at (c .status-at .ensures)) (eq-eqb _ 52 (d .before .before .before .if1 .left)) (day-refused l r))
+    rw (unchanged l r) (ends-refused _ _ _ (rw (c .before .number .ensures) at (c .status-at .ensures)) (eq-eqb _ 52 (d .before .before .before .if1 .left)) (day-outcome l r))
 
 returns-3 : tie.Need-returns-3
 unfolding labelCall
 returns-3 c =
     let d = c .before .before .before .before in
     let l = day-is d in
-    ends-given _ _ _ (l .output-is) (eq-eqb _ 52 (d .before .before .before .if1 .left)) (day-labelled l (c .enum-told .given .1))
+    ends-given _ _ _ (l .output-is) (eq-eqb _ 52 (d .before .before .before .if1 .left)) (day-outcome l (c .enum-told .given .1))
 
 pub yurdelmiz-label-spec : {M : Type 1} → statement M
 yurdelmiz-label-spec =

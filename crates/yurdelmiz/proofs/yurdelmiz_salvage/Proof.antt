@@ -2,7 +2,7 @@
 use borrow.Author.Tests.{eq-eqb, ne-eqb}
 use Rattle.yurdelmiz.specs.Calls.{salvageCall}
 use Rattle.yurdelmiz.proofs.Endings.{bad-buffers, ends-rejected, ends-written}
-use Rattle.yurdelmiz.proofs.Salvages.{salvage-rejected, salvage-written, unchanged}
+use Rattle.yurdelmiz.proofs.Salvages.{salvage-outcome, unchanged}
 use borrow.Author.Needs.{needs}
 use Rattle.yurdelmiz.proofs.yurdelmiz_salvage.Statement.{statement}
 use Rattle.yurdelmiz.proofs.yurdelmiz_salvage.Tie as tie
@@ -18,7 +18,7 @@ returns-2 c =
     let k = t .before .before .before .before in
     let s = k .keep-labels .ensures in
     let r = t .salvaged .given .1 in
-    ends-rejected _ _ _ _ (c .number .ensures) (unchanged s r) (eq-eqb _ 12 (k .before .before .if1 .left)) (salvage-rejected s r)
+    ends-rejected _ _ _ _ (c .number .ensures) (unchanged s r) (eq-eqb _ 12 (k .before .before .if1 .left)) (salvage-outcome s r)
 
 returns-3 : tie.Need-returns-3
 unfolding salvageCall
@@ -27,7 +27,7 @@ returns-3 c =
     let t = w .before .before .before in
     let k = t .before .before .before .before in
     let s = k .keep-labels .ensures in
-    ends-written _ _ _ _ (s .output-is) (w .write-salvage .ensures) (eq-eqb _ 12 (k .before .before .if1 .left)) (salvage-written s (t .salvaged2 .given .1))
+    ends-written _ _ _ _ (s .output-is) (w .write-salvage .ensures) (eq-eqb _ 12 (k .before .before .if1 .left)) (salvage-outcome s (t .salvaged2 .given .1))
 
 pub yurdelmiz-salvage-spec : {M : Type 1} → statement M
 yurdelmiz-salvage-spec =
