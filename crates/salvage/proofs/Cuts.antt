@@ -99,7 +99,7 @@ module _ (file : List ℕ) (form : Form) (c : Counts) (sound : Sound file form c
   leading-labels : (m : ℕ) → m ≤ c .labels → leading (keepsAt file) m ≡ m
   leading-labels m h = leading-all (keepsAt file) m (λ k l. keeps k (omega arith))
 
-  -- as many as the whole labels of its length, or as those and the trailer
+  -- the whole labels of the file's length: with the trailer of 16 bytes its own, and never fewer
   whole-16 : form ≡ Bytes16 → wholeLabels (length file) ≡ c .labels
   unfolding trailerSize
   whole-16 e = let alone = rw e at (sound .alone) in omega (arith, alone, accepted .placed .few)
@@ -123,7 +123,7 @@ module _ (file : List ℕ) (form : Form) (c : Counts) (cut : ℕ) (sound : Sound
   abbrev piece : List ℕ
   piece = take cut file
 
-  -- behind the labels, or among them
+  -- among the labels, or behind them
   kept-before : keptLabels (take cut file) ≡ wholeBefore (c .labels) cut
   unfolding keptLabels
   kept-before =

@@ -49,10 +49,11 @@ use Rattle.salvage.specs.Salvage.{salvaging, salvagedOutput}
 use Rattle.salvage.specs.declared.Salvage.{Salvage}
 use Rattle.salvage.specs.declared.Salvage.the-variants as salvage
 use Rattle.salvage.proofs.Written.{kept-says}
-use Rattle.yurdelmiz.specs.Answers.{anomalyBytes, stateBytes, elementsBytes, readBytes, addBytes, salvageBytes, notHeld}
-use Rattle.yurdelmiz.specs.Buffers.{elementsOf}
-use Rattle.yurdelmiz.specs.Faults.{faultNumber, faultPlace}
-use Rattle.yurdelmiz.specs.Call.{Call, Outcome, refused, given, callOf, BufferCall, BufferOutcome, rejected, written, bufferCallOf, statusAt}
+use Rattle.buffers.specs.Answers.{anomalyBytes, stateBytes, elementsBytes, readBytes, addBytes, salvageBytes, notHeld}
+use Rattle.buffers.specs.Buffers.{elementsOf}
+use Rattle.buffers.specs.Faults.{faultNumber, faultPlace}
+use Rattle.buffers.specs.Status.{statusAt}
+use Rattle.yurdelmiz.specs.Call.{Call, Outcome, refused, given, callOf, BufferCall, BufferOutcome, rejected, written, bufferCallOf}
 use Rattle.yurdelmiz.specs.Calls.{anomalyOutcome, keplerCall, earthFixedAt, stateOutcome, positionCall, elementsOutcome, elementsCall, dayOutcome, labelCall, labelOutcome, addOutcome, addCall, readOutcome, readCall, darkTestOutcome, darkTestCall, salvageOutcome, salvageCall}
 use Rattle.yurdelmiz.proofs.Elements.{elements-back}
 use Rattle.yurdelmiz.proofs.Endings.{ends-refused, ends-given}

@@ -4,8 +4,8 @@ use Rattle.endian.specs.LittleEndian.{bytes4, bytes8}
 use Rattle.endian.proofs.RoundTrip.{back4, back-i32, back-i64}
 use Rattle.orbit.specs.declared.elements.Elements.{Elements}
 use Rattle.elements_file.specs.Contract.{Held}
-use Rattle.yurdelmiz.specs.Answers.{words, elementsBytes}
-use Rattle.yurdelmiz.specs.Buffers.{elementsOf}
+use Rattle.buffers.specs.Answers.{words, elementsBytes}
+use Rattle.buffers.specs.Buffers.{elementsOf}
 
 -- the bytes of elements within their types say them again
 pub elements-back : (el : Elements) → Held el → elementsOf (elementsBytes el) ≡ el

@@ -26,7 +26,7 @@ use Rattle.label_file.proofs.Readings.{read-whole}
 use Rattle.label_file.proofs.Trailers.{size-bounds, trailer-says}
 use Rattle.label_file.proofs.Accepted.{accepted-file}
 use Rattle.label_file.proofs.Tails.{tail-says}
-use Rattle.yurdelmiz.specs.Answers.{words, countsBytes, readBytes, notHeld}
+use Rattle.buffers.specs.Answers.{words, countsBytes, readBytes, notHeld}
 use Rattle.yurdelmiz.specs.Call.{Call, ended}
 use Rattle.yurdelmiz.specs.Calls.{readOutcome, readCall, darkTestOutcome, darkTestCall}
 use Rattle.yurdelmiz.specs.TailOfFile.{whole, asked, TailOfFile}

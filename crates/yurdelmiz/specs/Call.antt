@@ -1,5 +1,5 @@
 -- How a call of the C interface ends: include/yurdelmiz.h, "Status". Assumes nothing.
-use Prim.Native.Nat.{ℕ, _+_, _*_, _^_}
+use Prim.Native.Nat.{ℕ}
 use mathlib.Core.Bool.{Bool, true, false}
 use mathlib.Core.List.{List}
 
@@ -43,9 +43,3 @@ bufferEnded (written after bytes) buffer answer = record { status = 0; buffer = 
 unfoldable pub bufferCallOf : Bool → BufferOutcome → List ℕ → List ℕ → BufferCall
 bufferCallOf lengths outcome buffer answer =
     elim lengths [ true ↦ bufferEnded outcome buffer answer | false ↦ record { status = 255; buffer = buffer; answer = answer } ]
-
--- ---- a refusal that has a place
-
--- its status: the number in the lower half, the place in the upper
-abbrev pub statusAt : ℕ → ℕ → ℕ
-statusAt number place = number + 2 ^ 32 * place

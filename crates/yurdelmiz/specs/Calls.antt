@@ -40,10 +40,11 @@ use Rattle.labelling.specs.declared.Labelling.the-variants as labelling
 use Rattle.salvage.specs.Salvage.{salvaging, salvagedOutput}
 use Rattle.salvage.specs.declared.Salvage.{Salvage}
 use Rattle.salvage.specs.declared.Salvage.the-variants as salvage
-use Rattle.yurdelmiz.specs.Answers.{anomalyBytes, sunBytes, stateBytes, elementsBytes, readBytes, addBytes, salvageBytes, notHeld}
-use Rattle.yurdelmiz.specs.Buffers.{elementsOf}
-use Rattle.yurdelmiz.specs.Faults.{faultNumber, faultPlace}
-use Rattle.yurdelmiz.specs.Call.{Call, Outcome, refused, given, callOf, BufferCall, BufferOutcome, rejected, written, bufferCallOf, statusAt}
+use Rattle.buffers.specs.Answers.{anomalyBytes, sunBytes, stateBytes, elementsBytes, readBytes, addBytes, salvageBytes, notHeld}
+use Rattle.buffers.specs.Buffers.{elementsOf}
+use Rattle.buffers.specs.Faults.{faultNumber, faultPlace}
+use Rattle.buffers.specs.Status.{statusAt}
+use Rattle.yurdelmiz.specs.Call.{Call, Outcome, refused, given, callOf, BufferCall, BufferOutcome, rejected, written, bufferCallOf}
 
 -- ---- yurdelmiz_kepler
 abbrev pub anomalyOutcome : Solution → Outcome

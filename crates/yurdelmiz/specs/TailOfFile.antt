@@ -6,7 +6,7 @@ use mathlib.Core.List.{List}
 use lib.ListN.{length}
 use Rattle.endian.specs.LittleEndian.{le4, bytes4}
 use Rattle.label_file.specs.Tail.{tailIn}
-use Rattle.yurdelmiz.specs.Answers.{notHeld}
+use Rattle.buffers.specs.Answers.{notHeld}
 use Rattle.yurdelmiz.specs.Call.{Call}
 use Rattle.yurdelmiz.specs.Calls.{readCall, darkTestCall}
 

@@ -15,11 +15,11 @@ use salvage::Salvage;
 use sun::Direction;
 use sun::SunAnswer;
 
-mod answers;
-mod buffers;
-
 // The status of a buffer whose length is not the header's.
 const BAD_BUFFER: u32 = 255;
+
+// In place of a figure that a file's trailer does not hold: no file has as many labels.
+const NOT_HELD: u32 = 0xffff_ffff;
 
 #[no_mangle]
 pub extern "C" fn yurdelmiz_sine(angle: u32) -> i64
@@ -46,7 +46,7 @@ pub extern "C" fn yurdelmiz_kepler(eccentricity: u32, mean_anomaly: u32, answer:
     match solution {
         Solution::Refused(refusal) => refusal.number(),
         Solution::Solved(anomaly) => {
-            answers::write_anomaly(answer, anomaly);
+            buffers::write_anomaly(answer, anomaly);
             0
         }
     }
@@ -63,7 +63,7 @@ pub extern "C" fn yurdelmiz_sun(time: i64, answer: &mut [u8]) -> u32
     match found {
         SunAnswer::Refused(refusal) => refusal.number(),
         SunAnswer::Found(sun) => {
-            answers::write_sun(answer, sun);
+            buffers::write_sun(answer, sun);
             0
         }
     }
@@ -86,7 +86,7 @@ pub extern "C" fn yurdelmiz_position(elements: &[u8], time: i64, answer: &mut [u
             let sun = sun::sun_at(time);
             let position = state.position;
             let earth_fixed = position.earth_fixed(sun.greenwich_hour_angle);
-            answers::write_state(answer, state, earth_fixed);
+            buffers::write_state(answer, state, earth_fixed);
             0
         }
     }
@@ -133,11 +133,11 @@ pub extern "C" fn yurdelmiz_elements(text: &[u8], answer: &mut [u8]) -> u64
     let parsed = elements_file::parse(text);
     match parsed {
         Parsed::Malformed(line, element, fault) => {
-            let number = answers::fault_number(fault);
-            answers::status_at(number, answers::fault_place(line, element))
+            let number = buffers::fault_number(fault);
+            buffers::status_at(number, buffers::fault_place(line, element))
         }
         Parsed::Whole(elements) => {
-            answers::write_elements(answer, elements);
+            buffers::write_elements(answer, elements);
             0
         }
     }
@@ -152,7 +152,7 @@ pub extern "C" fn yurdelmiz_label(elements: &[u8], telemetry: &[u8], output: &mu
     }
     let labelled = labelling::label_day(buffers::read_elements(elements), telemetry, output);
     match labelled {
-        Labelling::Refused(refusal, place) => answers::status_at(refusal.number(), place),
+        Labelling::Refused(refusal, place) => buffers::status_at(refusal.number(), place),
         Labelling::Labelled(_, _) => 0,
     }
 }
@@ -175,9 +175,9 @@ pub extern "C" fn yurdelmiz_add(
     }
     let added = labelling::add(buffers::read_elements(elements), buffer, size, telemetry);
     match added {
-        Labelling::Refused(refusal, place) => answers::status_at(refusal.number(), place),
+        Labelling::Refused(refusal, place) => buffers::status_at(refusal.number(), place),
         Labelling::Labelled(counts, end) => {
-            answers::write_adding(answer, counts, end);
+            buffers::write_adding(answer, counts, end);
             0
         }
     }
@@ -192,9 +192,9 @@ pub extern "C" fn yurdelmiz_read(file: &[u8], size: usize, answer: &mut [u8]) ->
     }
     let reading = label_file::read(file, size);
     match reading {
-        FileReading::Refused(refusal, place) => answers::status_at(refusal.number(), place),
+        FileReading::Refused(refusal, place) => buffers::status_at(refusal.number(), place),
         FileReading::Accepted(form, counts) => {
-            answers::write_reading(answer, form, counts);
+            buffers::write_reading(answer, form, counts);
             0
         }
     }
@@ -211,11 +211,11 @@ pub extern "C" fn yurdelmiz_dark_test(tail: &[u8], size: u64, answer: &mut [u8])
     match reading {
         TailReading::Refused(refusal) => refusal.number(),
         TailReading::NotHeld => {
-            answers::write_figure(answer, answers::NOT_HELD);
+            buffers::write_figure(answer, NOT_HELD);
             0
         }
         TailReading::Held(labels) => {
-            answers::write_figure(answer, labels);
+            buffers::write_figure(answer, labels);
             0
         }
     }
@@ -232,7 +232,7 @@ pub extern "C" fn yurdelmiz_salvage(body: &[u8], output: &mut [u8], answer: &mut
     match salvaged {
         Salvage::Refused(refusal) => refusal.number(),
         Salvage::Kept(labels, dropped) => {
-            answers::write_salvage(answer, labels, dropped);
+            buffers::write_salvage(answer, labels, dropped);
             0
         }
     }

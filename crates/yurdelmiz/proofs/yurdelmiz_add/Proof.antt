@@ -6,7 +6,7 @@ use lib.Dec.{eqb}
 use lib.ListN.{length}
 use denote.Ref.{now}
 use Rattle.labelling.specs.Contract.{AddedTo}
-use Rattle.yurdelmiz.specs.Buffers.{elementsOf}
+use Rattle.buffers.specs.Buffers.{elementsOf}
 use Rattle.yurdelmiz.specs.Calls.{addCall}
 use Rattle.yurdelmiz.proofs.Endings.{bad-buffers, ends-rejected, ends-written}
 use Rattle.yurdelmiz.proofs.Additions.{add-outcome, unchanged}

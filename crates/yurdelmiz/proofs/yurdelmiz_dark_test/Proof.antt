@@ -1,7 +1,7 @@
 -- `yurdelmiz::yurdelmiz_dark_test` meets its contract. Assumes nothing.
 use mathlib.Core.Path.{sym, ap, _∙_}
 use borrow.Author.Tests.{eq-eqb, ne-eqb}
-use Rattle.yurdelmiz.specs.Answers.{notHeld}
+use Rattle.buffers.specs.Answers.{notHeld}
 use Rattle.yurdelmiz.specs.Calls.{darkTestOutcome, darkTestCall}
 use Rattle.yurdelmiz.proofs.Endings.{bad-buffer, ends-refused, ends-given}
 use borrow.Author.Needs.{needs}

@@ -15,8 +15,8 @@ use Rattle.orbit.specs.Contract.{PlacementOwes, StateOwes, PlacedAt}
 use Rattle.orbit.specs.Placement.{placement}
 use Rattle.position.specs.Turn.{earthFixedOf}
 use Rattle.sun.specs.declared.Sun.{Sun}
-use Rattle.yurdelmiz.specs.Answers.{stateBytes}
-use Rattle.yurdelmiz.specs.Buffers.{elementsOf}
+use Rattle.buffers.specs.Answers.{stateBytes}
+use Rattle.buffers.specs.Buffers.{elementsOf}
 use Rattle.yurdelmiz.specs.Calls.{stateOutcome, earthFixedAt, positionCall}
 use Rattle.yurdelmiz.proofs.Endings.{bad-buffer, ends-refused, ends-given}
 use Rattle.yurdelmiz.proofs.Placed.{time-in-range, radius-small, turnable}

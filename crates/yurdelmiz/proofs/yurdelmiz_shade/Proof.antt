@@ -8,7 +8,7 @@ use Prim.Native.Nat.{ℕ}
 use mathlib.Core.List.{[], _∷_}
 use mir.Facts.{toZ-ofZ}
 use Rattle.eclipse.specs.Shade.{shadeAnswer}
-use Rattle.yurdelmiz.proofs.Stores.{over-all}
+use Rattle.buffers.proofs.Stores.{over-all}
 use borrow.Author.Needs.{needs}
 use Rattle.yurdelmiz.proofs.yurdelmiz_shade.Statement.{statement}
 use Rattle.yurdelmiz.proofs.yurdelmiz_shade.Tie as tie

@@ -1,0 +1,17 @@
+// What the buffers of the C interface hold, and its statuses: include/yurdelmiz.h.
+mod answers;
+mod elements;
+mod statuses;
+
+pub use answers::write_adding;
+pub use answers::write_anomaly;
+pub use answers::write_elements;
+pub use answers::write_figure;
+pub use answers::write_reading;
+pub use answers::write_salvage;
+pub use answers::write_state;
+pub use answers::write_sun;
+pub use elements::read_elements;
+pub use statuses::fault_number;
+pub use statuses::fault_place;
+pub use statuses::status_at;
