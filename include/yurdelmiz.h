@@ -10,7 +10,7 @@
  *
  * Status: 0 is accepted. A refusal is its number in document 01's table, below, and then no byte of
  * any slice is changed. Two kinds of status are no refusals of the table, and change nothing either:
- * YURDELMIZ_BAD_BUFFER, where `elements` or `answer` has another length than this header gives, which
+ * YURDELMIZ_BAD_BUFFER, where `elements`, `day` or `answer` has another length than this header gives, which
  * is looked at before all else; and the faults of an elements file, from yurdelmiz_elements alone.
  *
  * No function keeps a pointer or uses anything but its arguments: calls may run in parallel on
@@ -46,10 +46,12 @@ enum {
      * 2,592,000 s where the derivative of the mean motion is not 0. */
     YURDELMIZ_TIME = 8,
     /* 9 is not used, and not to be used again. */
-    /* Telemetry length no multiple of 16, or over 1,024 records with the labels of the file. */
+    /* Telemetry length no multiple of 16, or over 1,024 records with the labels of the file. In packets: a
+     * packet that completes a 1,025th record, or a day closed within a record. */
     YURDELMIZ_TELEMETRY_LENGTH = 10,
     /* From the first label on, output or buffer shorter than 24 bytes a label plus 24, in
-     * yurdelmiz_salvage a label that is kept. */
+     * yurdelmiz_salvage a label that is kept. In yurdelmiz_packet output shorter than 24 bytes for each
+     * record that is completed, in yurdelmiz_close than 24 bytes. */
     YURDELMIZ_OUTPUT_LENGTH = 11,
     /* Label file: fewer than 16 bytes, a length beyond the buffer, a trailer that does not fit, or a tail
      * of another number of bytes. */
@@ -61,7 +63,9 @@ enum {
     /* Half the derivative of the mean motion beyond +-1,000,000 (10^-8 revolutions a day squared), or
      * the mean motion less 60 times its size below 20,000,000. */
     YURDELMIZ_MEAN_MOTION_DERIVATIVE = 16,
-    /* No refusal of the table: `elements` or `answer` is not of the length given here. */
+    /* `day` is closed, or is no state of a day. */
+    YURDELMIZ_DAY = 24,
+    /* No refusal of the table: `elements`, `day` or `answer` is not of the length given here. */
     YURDELMIZ_BAD_BUFFER = 255
 };
 
@@ -87,9 +91,10 @@ enum {
     YURDELMIZ_MALFORMED_TOO_LONG = 109
 };
 
-/* Lengths of `elements` and of each `answer`, in bytes. */
+/* Lengths of `elements`, of `day` and of each `answer`, in bytes. */
 enum {
     YURDELMIZ_ELEMENTS_BYTES = 52,
+    YURDELMIZ_DAY_BYTES = 89,
     YURDELMIZ_KEPLER_BYTES = 8,
     YURDELMIZ_SUN_BYTES = 28,
     YURDELMIZ_POSITION_BYTES = 68,
@@ -107,9 +112,15 @@ enum { YURDELMIZ_TAIL_BYTES = 24 };
  * as many labels. */
 #define YURDELMIZ_NOT_HELD 0xffffffffu
 
-/* The parts of a result of 64 bits: the status; from yurdelmiz_label, yurdelmiz_add and yurdelmiz_read
- * the place of a refusal, which is the number of the record or label from 0, in yurdelmiz_add that of
- * the record's label in the whole file, and 0 where none applies; from yurdelmiz_elements the line of a
+/* The labels written so far of the day whose state is the bytes at `day`. */
+#define YURDELMIZ_DAY_LABELS(day)                                              \
+    ((uint32_t)(day)[52] | (uint32_t)(day)[53] << 8 | (uint32_t)(day)[54] << 16 \
+     | (uint32_t)(day)[55] << 24)
+
+/* The parts of a result of 64 bits: the status; from yurdelmiz_label, yurdelmiz_add, yurdelmiz_read,
+ * yurdelmiz_packet and yurdelmiz_close the place of a refusal, which is the number of the record or label
+ * from 0, in yurdelmiz_add that of the record's label in the whole file, in yurdelmiz_packet that of the
+ * record in the whole day, and 0 where none applies; from yurdelmiz_elements the line of a
  * fault, from 1, and the number from 0 of the element that was due there, in the order of the file, 12
  * behind the last. */
 #define YURDELMIZ_STATUS(result) ((uint32_t)((result) & 0xffffffffu))
@@ -303,6 +314,48 @@ uint32_t yurdelmiz_dark_test(const uint8_t *tail, size_t tail_len, uint64_t size
 uint32_t yurdelmiz_salvage(const uint8_t *bytes, size_t bytes_len,
                            uint8_t *output, size_t output_len,
                            uint8_t *answer, size_t answer_len);
+
+/* Packets: a day's telemetry handed over as it comes, cut anywhere, records too. Where yurdelmiz_open, each
+ * yurdelmiz_packet and yurdelmiz_close accept, the labels of each packet one after another and then the
+ * trailer are the file that yurdelmiz_label writes for the packets' bytes joined, whichever way they were
+ * cut, and yurdelmiz_read accepts it. After a refusal the day can go on: its state is the one before.
+ *
+ *   day, 89 bytes, the state of a day; it may be kept, copied and moved between calls:
+ *     0  52 bytes  elements, as above
+ *    52  u32       labels written so far
+ *    56  u32       training labels among them
+ *    60  u32       test labels
+ *    64  u32       dark labels
+ *    68  u32       dark test labels
+ *    72  u8        1 where the day is closed, otherwise 0
+ *    73  u8        bytes held of an unfinished record, 0 to 15
+ *    74  15 bytes  those bytes, and zeros behind them
+ *
+ * `day` may hold any bytes. Refusal 24, before the others, where the day is closed, or byte 72 is neither 0
+ * nor 1, or a refusal of yurdelmiz_open applies to the elements, or over 15 bytes are held, or the labels
+ * are over 1,024, training and test labels together over the labels, dark labels over the labels, or dark
+ * test labels over the test or the dark labels. What stands behind the bytes held is not looked at.
+ */
+
+/* Opens a day: `day` gets the elements, no labels and no bytes held, whatever it held. Refusals 1 to 7, then
+ * 16, for the elements, 8 for the epoch.
+ */
+uint32_t yurdelmiz_open(const uint8_t *elements, size_t elements_len,
+                        uint8_t *day, size_t day_len);
+
+/* Takes a packet, any bytes: the records that it completes are labelled, 24 bytes each from the start of
+ * `output`, and what is left of it is held. What lies behind the labels is unchanged; there are as many as
+ * YURDELMIZ_DAY_LABELS(day) has grown by. Refusals 24, 10 where it completes a 1,025th record of the day, 11,
+ * all at place 0; then 8 for each record that it completes in order, at its place in the whole day.
+ */
+uint64_t yurdelmiz_packet(uint8_t *day, size_t day_len,
+                          const uint8_t *packet, size_t packet_len,
+                          uint8_t *output, size_t output_len);
+
+/* Closes a day: the trailer of its labels, 24 bytes from the start of `output`, what lies behind them
+ * unchanged. Refusals 24, 10 where a part of a record is held, 11, all at place 0.
+ */
+uint64_t yurdelmiz_close(uint8_t *day, size_t day_len, uint8_t *output, size_t output_len);
 
 #ifdef __cplusplus
 }

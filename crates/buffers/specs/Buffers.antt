@@ -6,7 +6,7 @@ use mir.Val.{toZ}
 use Rattle.endian.specs.LittleEndian.{le4, le8}
 use Rattle.orbit.specs.declared.elements.Elements.{Elements}
 
--- elements, 52 bytes
+-- elements, the first 52 bytes
 unfoldable pub elementsOf : List ℕ → Elements
 elementsOf bytes =
     record {

@@ -91,9 +91,9 @@ pub fn write_state(answer: &mut [u8], state: State, earth_fixed: Position)
     write_position(answer, 44, earth_fixed);
 }
 
-pub fn write_elements(answer: &mut [u8], elements: Elements)
-    requires { ⌜ length (now answer) ≡ 52 ⌝ }
-    ensures { λ _. ⌜ now (answer .exit) ≡ elementsBytes elements ⌝ }
+pub fn write_elements(answer: &mut [u8], at: usize, elements: Elements)
+    requires { ⌜ at + 52 ≤ length (now answer) ⌝ }
+    ensures { λ _. ⌜ now (answer .exit) ≡ sets (now (answer .entry)) at (elementsBytes elements) ⌝ }
 {
     let numbers = [
         elements.eccentricity,
@@ -108,11 +108,11 @@ pub fn write_elements(answer: &mut [u8], elements: Elements)
         elements.epoch_revolution,
         integer::bits_of_i32(elements.half_mean_motion_derivative),
     ];
-    endian::write_i64(answer, 0, elements.epoch);
-    write_words(answer, 8, &numbers);
+    endian::write_i64(answer, at, elements.epoch);
+    write_words(answer, at + 8, &numbers);
 }
 
-fn write_counts(answer: &mut [u8], at: usize, counts: Counts)
+pub fn write_counts(answer: &mut [u8], at: usize, counts: Counts)
     requires { ⌜ at + 20 ≤ length (now answer) ⌝ }
     ensures { λ _. ⌜ now (answer .exit) ≡ sets (now (answer .entry)) at (countsBytes counts) ⌝ }
 {

@@ -1,12 +1,13 @@
 // Elements in a buffer.
 ghost use mathlib.Core.Path.{_≡_};
+ghost use Prim.Native.Nat.{_≤_};
 ghost use lib.ListN.{length};
 ghost use Rattle.buffers.specs.Buffers.{elementsOf};
 use orbit::elements::Elements;
 
-// The elements in a buffer whose length is found to be the header's.
+// The elements at the start of a buffer whose length is found to be the header's.
 pub fn read_elements(bytes: &[u8]) -> Elements
-    requires { ⌜ length (now bytes) ≡ 52 ⌝ }
+    requires { ⌜ 52 ≤ length (now bytes) ⌝ }
     ensures { λ r. ⌜ r ≡ elementsOf (now (bytes .entry)) ⌝ }
 {
     Elements {

@@ -5,6 +5,7 @@ mod statuses;
 
 pub use answers::write_adding;
 pub use answers::write_anomaly;
+pub use answers::write_counts;
 pub use answers::write_elements;
 pub use answers::write_figure;
 pub use answers::write_reading;

@@ -45,7 +45,8 @@ pub fn distance_back(form: Form, labels: u32) -> usize
     label::SIZE * (labels as usize) + form.size()
 }
 
-fn counts_allowed(stated: Counts) -> bool
+// Counts that some labels can have.
+pub fn counts_allowed(stated: Counts) -> bool
     ensures { λ r. ⌜ r ≡ countsAllowed stated ⌝ }
 {
     if stated.labels < stated.training {

@@ -6,7 +6,7 @@ use lib.Dec.{eqb}
 use native.Mathlib.Omega.{arith}
 use Rattle.refusal.specs.Numbers.{numberOf}
 use Rattle.refusal.specs.declared.Refusal.{Refusal}
-use Rattle.refusal.specs.declared.Refusal.the-variants.{Eccentricity, SemiMajorAxis, PerigeeDistance, Inclination, MeanMotion, DriftRate, EpochRevolution, Time, TelemetryLength, OutputLength, Trailer, Labels, Component, MeanMotionDerivative}
+use Rattle.refusal.specs.declared.Refusal.the-variants.{Eccentricity, SemiMajorAxis, PerigeeDistance, Inclination, MeanMotion, DriftRate, EpochRevolution, Time, TelemetryLength, OutputLength, Trailer, Labels, Component, MeanMotionDerivative, Day}
 
 numbers : (r : Refusal) → (1 ≤ numberOf r) × (numberOf r ≡ 9 → ⊥)
 numbers Eccentricity = (omega arith, omega arith)
@@ -23,6 +23,7 @@ numbers Trailer = (omega arith, omega arith)
 numbers Labels = (omega arith, omega arith)
 numbers Component = (omega arith, omega arith)
 numbers MeanMotionDerivative = (omega arith, omega arith)
+numbers Day = (omega arith, omega arith)
 
 -- 0 is the status of what was accepted
 pub never-0 : (r : Refusal) → 1 ≤ numberOf r
@@ -46,7 +47,8 @@ named n =
     (cond (eqb n 11) OutputLength
     (cond (eqb n 12) Trailer
     (cond (eqb n 13) Labels
-    (cond (eqb n 14) Component MeanMotionDerivative))))))))))))
+    (cond (eqb n 14) Component
+    (cond (eqb n 16) MeanMotionDerivative Day)))))))))))))
 
 named-is : (r : Refusal) → named (numberOf r) ≡ r
 unfolding named
@@ -64,6 +66,7 @@ named-is Trailer = refl
 named-is Labels = refl
 named-is Component = refl
 named-is MeanMotionDerivative = refl
+named-is Day = refl
 
 -- no two refusals have one number
 pub one-each : (r s : Refusal) → numberOf r ≡ numberOf s → r ≡ s

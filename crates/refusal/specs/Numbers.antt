@@ -1,7 +1,7 @@
 -- The number of each refusal: document 01, "When the build says no". Assumes nothing.
 use Prim.Native.Nat.{ℕ}
 use Rattle.refusal.specs.declared.Refusal.{Refusal}
-use Rattle.refusal.specs.declared.Refusal.the-variants.{Eccentricity, SemiMajorAxis, PerigeeDistance, Inclination, MeanMotion, DriftRate, EpochRevolution, Time, TelemetryLength, OutputLength, Trailer, Labels, Component, MeanMotionDerivative}
+use Rattle.refusal.specs.declared.Refusal.the-variants.{Eccentricity, SemiMajorAxis, PerigeeDistance, Inclination, MeanMotion, DriftRate, EpochRevolution, Time, TelemetryLength, OutputLength, Trailer, Labels, Component, MeanMotionDerivative, Day}
 
 abbrev pub numberOf : Refusal → ℕ
 -- e above 9,000,000
@@ -21,9 +21,9 @@ numberOf EpochRevolution = 7
 -- epoch or time out of range, or the two too far apart
 numberOf Time = 8
 -- 9 is not used, and not to be used again (law `never-9`)
--- telemetry length no multiple of 16, or over 1,024 records
+-- telemetry length no multiple of 16, or over 1,024 records; a day closed within a record
 numberOf TelemetryLength = 10
--- output shorter than 24 a record plus 24, or a buffer too short to add to
+-- output shorter than 24 a record plus 24, or a buffer too short to add to; output too short for the labels of a packet, or for a trailer
 numberOf OutputLength = 11
 -- a label file's length, its trailer's numbers, or a tail of another number of bytes
 numberOf Trailer = 12
@@ -33,3 +33,5 @@ numberOf Labels = 13
 numberOf Component = 14
 -- half the derivative of the mean motion beyond ±1,000,000, or n less 60 times its size below 20,000,000
 numberOf MeanMotionDerivative = 16
+-- a closed day, or what is no state of a day
+numberOf Day = 24

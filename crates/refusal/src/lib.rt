@@ -17,6 +17,7 @@ pub enum Refusal {
     Labels,
     Component,
     MeanMotionDerivative,
+    Day,
 }
 
 impl Refusal {
@@ -39,6 +40,7 @@ impl Refusal {
             Refusal::Labels => 13,
             Refusal::Component => 14,
             Refusal::MeanMotionDerivative => 16,
+            Refusal::Day => 24,
         }
     }
 }

@@ -3,6 +3,7 @@ pub mod Placed
 pub mod Days
 pub mod Additions
 pub mod Salvages
+pub mod DaySteps
 pub mod Elements
 pub mod AcceptedCalls
 pub mod TailCalls

@@ -40,10 +40,17 @@ use Rattle.labelling.specs.declared.Labelling.the-variants as labelling
 use Rattle.salvage.specs.Salvage.{salvaging, salvagedOutput}
 use Rattle.salvage.specs.declared.Salvage.{Salvage}
 use Rattle.salvage.specs.declared.Salvage.the-variants as salvage
+use Rattle.packets.specs.Day.{openingStep}
+use Rattle.packets.specs.Packet.{packetStep, packetOutput}
+use Rattle.packets.specs.Closing.{closingStep, closingOutput}
+use Rattle.packets.specs.declared.Day.{Day}
+use Rattle.packets.specs.declared.Outcome.{Outcome as StepOutcome}
+use Rattle.packets.specs.declared.Outcome.the-variants as step
 use Rattle.buffers.specs.Answers.{anomalyBytes, sunBytes, stateBytes, elementsBytes, readBytes, addBytes, salvageBytes, notHeld}
 use Rattle.buffers.specs.Buffers.{elementsOf}
 use Rattle.buffers.specs.Faults.{faultNumber, faultPlace}
 use Rattle.buffers.specs.Status.{statusAt}
+use Rattle.day_buffer.specs.State.{dayOf, dayBytes}
 use Rattle.yurdelmiz.specs.Call.{Call, Outcome, refused, given, callOf, BufferCall, BufferOutcome, rejected, written, bufferCallOf}
 
 -- ---- yurdelmiz_kepler
@@ -140,3 +147,31 @@ salvageOutcome (salvage.Kept labels dropped) after = written after (salvageBytes
 unfoldable pub salvageCall : List ℕ → List ℕ → List ℕ → BufferCall
 salvageCall body output answer =
     bufferCallOf (eqb (length answer) 12) (salvageOutcome (salvaging body (length output)) (salvagedOutput body output)) output answer
+
+-- ---- yurdelmiz_open
+abbrev pub openOutcome : StepOutcome → Day → Outcome
+openOutcome (step.Refused refusal place) d = refused (numberOf refusal)
+openOutcome step.Accepted d = given (dayBytes d)
+
+unfoldable pub openCall : List ℕ → List ℕ → Call
+openCall elements day =
+    let opened = openingStep (elementsOf elements) in
+    callOf (eqb (length elements) 52 && eqb (length day) 89) (openOutcome (opened .outcome) (opened .day)) day
+
+-- ---- yurdelmiz_packet
+abbrev pub stepOutcome : StepOutcome → Day → List ℕ → BufferOutcome
+stepOutcome (step.Refused refusal place) d after = rejected (statusAt (numberOf refusal) place)
+stepOutcome step.Accepted d after = written after (dayBytes d)
+
+unfoldable pub packetCall : List ℕ → List ℕ → List ℕ → BufferCall
+packetCall day packet output =
+    let d = dayOf day in
+    let taken = packetStep d packet (length output) in
+    bufferCallOf (eqb (length day) 89) (stepOutcome (taken .outcome) (taken .day) (packetOutput d packet output)) output day
+
+-- ---- yurdelmiz_close
+unfoldable pub closeCall : List ℕ → List ℕ → BufferCall
+closeCall day output =
+    let d = dayOf day in
+    let closed = closingStep d (length output) in
+    bufferCallOf (eqb (length day) 89) (stepOutcome (closed .outcome) (closed .day) (closingOutput d output)) output day

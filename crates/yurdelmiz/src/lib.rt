@@ -2,7 +2,7 @@
 ghost use mathlib.Core.Path.{_≡_};
 ghost use Rattle.trig.specs.Contract.{CosineAt};
 ghost use Rattle.trig.specs.ExactSine.{SineAt};
-ghost use Rattle.yurdelmiz.specs.Calls.{keplerCall, sunCall, positionCall, shadeCall, elementsCall, labelCall, addCall, readCall, darkTestCall, salvageCall};
+ghost use Rattle.yurdelmiz.specs.Calls.{keplerCall, sunCall, positionCall, shadeCall, elementsCall, labelCall, addCall, readCall, darkTestCall, salvageCall, openCall, packetCall, closeCall};
 use eclipse::ShadeAnswer;
 use elements_file::Parsed;
 use kepler::Solution;
@@ -10,6 +10,7 @@ use label_file::FileReading;
 use label_file::TailReading;
 use labelling::Labelling;
 use orbit::Placement;
+use packets::Outcome;
 use position::Position;
 use salvage::Salvage;
 use sun::Direction;
@@ -137,7 +138,7 @@ pub extern "C" fn yurdelmiz_elements(text: &[u8], answer: &mut [u8]) -> u64
             buffers::status_at(number, buffers::fault_place(line, element))
         }
         Parsed::Whole(elements) => {
-            buffers::write_elements(answer, elements);
+            buffers::write_elements(answer, 0, elements);
             0
         }
     }
@@ -233,6 +234,66 @@ pub extern "C" fn yurdelmiz_salvage(body: &[u8], output: &mut [u8], answer: &mut
         Salvage::Refused(refusal) => refusal.number(),
         Salvage::Kept(labels, dropped) => {
             buffers::write_salvage(answer, labels, dropped);
+            0
+        }
+    }
+}
+
+#[no_mangle]
+pub extern "C" fn yurdelmiz_open(elements: &[u8], day: &mut [u8]) -> u32
+    ensures { λ r. ⌜ record { status = r; answer = now (day .exit) } ≡ openCall (now (elements .entry)) (now (day .entry)) ⌝ }
+{
+    if elements.len() != 52 {
+        return BAD_BUFFER;
+    }
+    if day.len() != 89 {
+        return BAD_BUFFER;
+    }
+    let step = packets::open_day(buffers::read_elements(elements));
+    let outcome = step.outcome;
+    match outcome {
+        Outcome::Refused(refusal, _) => refusal.number(),
+        Outcome::Accepted => {
+            let opened = step.day;
+            day_buffer::write_day(day, opened);
+            0
+        }
+    }
+}
+
+#[no_mangle]
+pub extern "C" fn yurdelmiz_packet(day: &mut [u8], packet: &[u8], output: &mut [u8]) -> u64
+    ensures { λ r. ⌜ record { status = r; buffer = now (output .exit); answer = now (day .exit) } ≡ packetCall (now (day .entry)) (now (packet .entry)) (now (output .entry)) ⌝ }
+{
+    if day.len() != 89 {
+        return BAD_BUFFER as u64;
+    }
+    let step = packets::take_packet(day_buffer::read_day(day), packet, output);
+    let outcome = step.outcome;
+    match outcome {
+        Outcome::Refused(refusal, place) => buffers::status_at(refusal.number(), place),
+        Outcome::Accepted => {
+            let next = step.day;
+            day_buffer::write_day(day, next);
+            0
+        }
+    }
+}
+
+#[no_mangle]
+pub extern "C" fn yurdelmiz_close(day: &mut [u8], output: &mut [u8]) -> u64
+    ensures { λ r. ⌜ record { status = r; buffer = now (output .exit); answer = now (day .exit) } ≡ closeCall (now (day .entry)) (now (output .entry)) ⌝ }
+{
+    if day.len() != 89 {
+        return BAD_BUFFER as u64;
+    }
+    let step = packets::close_day(day_buffer::read_day(day), output);
+    let outcome = step.outcome;
+    match outcome {
+        Outcome::Refused(refusal, place) => buffers::status_at(refusal.number(), place),
+        Outcome::Accepted => {
+            let closed = step.day;
+            day_buffer::write_day(day, closed);
             0
         }
     }

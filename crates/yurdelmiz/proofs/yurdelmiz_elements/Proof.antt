@@ -4,6 +4,9 @@ use borrow.Author.Tests.{eq-eqb, ne-eqb}
 use denote.Ref.{now}
 use Rattle.elements_file.specs.Contract.{InBounds}
 use Rattle.elements_file.proofs.Consistency.{parsed-in-bounds}
+use Rattle.endian.specs.LittleEndian.{bytes4, bytes8}
+use Rattle.buffers.specs.Answers.{words, elementsBytes}
+use Rattle.buffers.proofs.Stores.{over-all}
 use Rattle.yurdelmiz.specs.Calls.{elementsOutcome, elementsCall}
 use Rattle.yurdelmiz.proofs.Endings.{bad-buffer, ends-refused, ends-given}
 use borrow.Author.Needs.{needs}
@@ -26,11 +29,12 @@ returns-2 c =
     ends-refused _ _ _ (rw (c .before .before .fault-number .ensures, c .before .fault-place .ensures) at (c .status-at .ensures)) (eq-eqb _ 52 (p .before .if1 .left)) (ap elementsOutcome (sym (p .parse .ensures) ∙ c .before .before .before .before .parsed .given .1))
 
 returns-3 : tie.Need-returns-3
-unfolding elementsCall
+unfolding elementsCall elementsBytes words bytes8 bytes4
 returns-3 c =
     let w = c .before .before in
     let p = w .before .before .before .before .before in
-    ends-given _ _ _ (w .write-elements .ensures) (eq-eqb _ 52 (p .before .if1 .left)) (ap elementsOutcome (sym (p .parse .ensures) ∙ w .before .before .before .parsed2 .given .1))
+    let el = w .before .before .before .parsed2 .given .0 .0 in
+    ends-given _ _ _ (w .write-elements .ensures ∙ over-all (now (p .before .before .before .before .args .answer)) (elementsBytes el) (p .before .if1 .left)) (eq-eqb _ 52 (p .before .if1 .left)) (ap elementsOutcome (sym (p .parse .ensures) ∙ w .before .before .before .parsed2 .given .1))
 
 pub yurdelmiz-elements-spec : {M : Type 1} → statement M
 yurdelmiz-elements-spec =

@@ -1,5 +1,5 @@
 -- `buffers::answers::write_elements` meets its contract. Assumes nothing.
-use mathlib.Core.Path.{refl, _∙_}
+use mathlib.Core.Path.{refl}
 use mathlib.Core.List.{[], _∷_}
 use mir.Syntax.{w32, w64}
 use mir.Val.{SFits, ofZ}
@@ -8,7 +8,6 @@ use denote.Ref.{now}
 use Rattle.endian.specs.LittleEndian.{bytes4, bytes8}
 use Rattle.endian.proofs.Stores.{then}
 use Rattle.buffers.specs.Answers.{words, elementsBytes}
-use Rattle.buffers.proofs.Stores.{over-all}
 use borrow.Author.Needs.{needs}
 use Rattle.buffers.proofs.answers.write_elements.Statement.{statement}
 use Rattle.buffers.proofs.answers.write_elements.Tie as tie
@@ -29,7 +28,7 @@ returns c =
     let el = s .args .elements in
     let numbers = words (el .eccentricity ∷ el .«semi_major_axis» ∷ el .inclination ∷ el .node ∷ el .«argument_of_perigee» ∷ el .«mean_anomaly» ∷ el .«mean_motion» ∷ ofZ w32 (el .«node_rate») ∷ ofZ w32 (el .«perigee_rate») ∷ el .«epoch_revolution» ∷ ofZ w32 (el .«half_mean_motion_derivative») ∷ []) in
     let rest = rw (rw (toZ-ofZ (fits s .1)) at (n .bits-of-i32 .ensures), rw (toZ-ofZ (fits s .2)) at (p .bits-of-i322 .ensures), rw (toZ-ofZ (fits s .3)) at (d .bits-of-i323 .ensures)) at (w .write-words .ensures) in
-    then l _ _ 0 8 (bytes8 (ofZ w64 (el .epoch))) numbers refl (rw (toZ-ofZ (fits s .0)) at (e .write-i64 .ensures)) rest ∙ over-all l (elementsBytes el) (s .pre)
+    then l _ _ (s .args .at) 8 (bytes8 (ofZ w64 (el .epoch))) numbers refl (rw (toZ-ofZ (fits s .0)) at (e .write-i64 .ensures)) rest
 
 pub write-elements-spec : {M : Type 1} → statement M
 write-elements-spec =
@@ -39,6 +38,7 @@ write-elements-spec =
     (λ c κs. search needs)
     (λ c κs. search needs)
     (λ c κs. search needs)
+    (λ c. search needs)
     (λ c. search needs)
     (λ c κs. search needs)
     (λ c. search needs)
