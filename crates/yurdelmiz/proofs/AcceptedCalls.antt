@@ -1,7 +1,7 @@
 -- What a call that ended with status 0 gave, for its caller to cite; and what the result of a malformed elements file says. Assumes nothing.
 use mathlib.Core.Path.{_≡_, refl, sym, ap, subst, _∙_}
 use mathlib.Core.Bool.{Bool, true, false}
-use mathlib.Core.List.{List}
+use mathlib.Core.List.{List, [], append-nil}
 use Prim.Native.Nat.{ℕ, _+_, _*_, _/_, _%_, _^_, _≤_, _<_}
 use native.Mathlib.Omega.{arith}
 use borrow.Author.Tests.{eq-eqb, leb-true, leb-false}
@@ -53,9 +53,9 @@ use Rattle.buffers.specs.Answers.{anomalyBytes, stateBytes, elementsBytes, read
 use Rattle.buffers.specs.Buffers.{elementsOf}
 use Rattle.buffers.specs.Faults.{faultNumber, faultPlace}
 use Rattle.buffers.specs.Status.{statusAt}
+use Rattle.buffers.proofs.ElementsBack.{elements-back}
 use Rattle.yurdelmiz.specs.Call.{Call, Outcome, refused, given, callOf, BufferCall, BufferOutcome, rejected, written, bufferCallOf}
 use Rattle.yurdelmiz.specs.Calls.{anomalyOutcome, keplerCall, earthFixedAt, stateOutcome, positionCall, elementsOutcome, elementsCall, dayOutcome, labelCall, labelOutcome, addOutcome, addCall, readOutcome, readCall, darkTestOutcome, darkTestCall, salvageOutcome, salvageCall}
-use Rattle.yurdelmiz.proofs.Elements.{elements-back}
 use Rattle.yurdelmiz.proofs.Endings.{ends-refused, ends-given}
 
 -- ---- status 0
@@ -72,22 +72,22 @@ fault-numbered Missing = (lit≤ tt, lit≤ tt)
 fault-numbered TooLong = (lit≤ tt, lit≤ tt)
 
 -- what is asked for was given, or its refusal would have the number 0
-abbrev Ending : Outcome → List ℕ → Type 0
+abbrev pub Ending : Outcome → List ℕ → Type 0
 Ending (refused status) answer = status ≡ 0
 Ending (given bytes) answer = answer ≡ bytes
 
-accepted : (lengths : Bool) (outcome : Outcome) (buffer : List ℕ) → callOf lengths outcome buffer .status ≡ 0 → Ending outcome (callOf lengths outcome buffer .answer)
+pub accepted : (lengths : Bool) (outcome : Outcome) (buffer : List ℕ) → callOf lengths outcome buffer .status ≡ 0 → Ending outcome (callOf lengths outcome buffer .answer)
 unfolding callOf
 accepted true (refused status) buffer e = e
 accepted true (given bytes) buffer e = refl
 accepted false outcome buffer e = absurd (omega arith)
 
 -- the same of a call that writes a buffer beside its answer
-abbrev BufferEnding : BufferOutcome → BufferCall → Type 0
+abbrev pub BufferEnding : BufferOutcome → BufferCall → Type 0
 BufferEnding (rejected status) call = status ≡ 0
 BufferEnding (written after bytes) call = (call .buffer ≡ after) × (call .answer ≡ bytes)
 
-buffer-accepted : (lengths : Bool) (outcome : BufferOutcome) (buffer answer : List ℕ) → bufferCallOf lengths outcome buffer answer .status ≡ 0
+pub buffer-accepted : (lengths : Bool) (outcome : BufferOutcome) (buffer answer : List ℕ) → bufferCallOf lengths outcome buffer answer .status ≡ 0
     → BufferEnding outcome (bufferCallOf lengths outcome buffer answer)
 unfolding bufferCallOf
 buffer-accepted true (rejected status) buffer answer e = e
@@ -144,7 +144,7 @@ pub record ElementsAnswer (text answer : List ℕ) : Type 0 where
 elements-by : (text answer : List ℕ) (r : Parsed) → parsed text ≡ r → Ending (elementsOutcome r) answer → ElementsAnswer text answer
 elements-by text answer (parsed.Malformed line element fault) e g = absurd (omega (arith, fault-numbered fault))
 elements-by text answer (parsed.Whole el) e g =
-    record { elements = el; parsed-is = e; answer-is = g; elements-are = rw g (elements-back el (subst InBounds e (parsed-in-bounds text))) }
+    record { elements = el; parsed-is = e; answer-is = g; elements-are = rw g (ap elementsOf (sym (append-nil (elementsBytes el))) ∙ elements-back el [] (subst InBounds e (parsed-in-bounds text))) }
 
 pub elements-accepted : (text buffer : List ℕ) → elementsCall text buffer .status ≡ 0 → ElementsAnswer text (elementsCall text buffer .answer)
 unfolding elementsCall

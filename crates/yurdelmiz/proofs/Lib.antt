@@ -4,6 +4,6 @@ pub mod Days
 pub mod Additions
 pub mod Salvages
 pub mod DaySteps
-pub mod Elements
 pub mod AcceptedCalls
 pub mod TailCalls
+pub mod CutDays

@@ -1,3 +1,4 @@
 pub mod Call
 pub mod Calls
 pub mod TailOfFile
+pub mod CutDay

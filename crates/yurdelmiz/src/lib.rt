@@ -268,7 +268,8 @@ pub extern "C" fn yurdelmiz_packet(day: &mut [u8], packet: &[u8], output: &mut [
     if day.len() != 89 {
         return BAD_BUFFER as u64;
     }
-    let step = packets::take_packet(day_buffer::read_day(day), packet, output);
+    let before = day_buffer::read_day(day);
+    let step = packets::take_packet(before, packet, output);
     let outcome = step.outcome;
     match outcome {
         Outcome::Refused(refusal, place) => buffers::status_at(refusal.number(), place),
@@ -287,7 +288,8 @@ pub extern "C" fn yurdelmiz_close(day: &mut [u8], output: &mut [u8]) -> u64
     if day.len() != 89 {
         return BAD_BUFFER as u64;
     }
-    let step = packets::close_day(day_buffer::read_day(day), output);
+    let before = day_buffer::read_day(day);
+    let step = packets::close_day(before, output);
     let outcome = step.outcome;
     match outcome {
         Outcome::Refused(refusal, place) => buffers::status_at(refusal.number(), place),
