@@ -1,9 +1,10 @@
-//! Document 01, and the elements file of docs/FORMATS.md, in plain Rust: what the proved library is
-//! compared with.
+//! Document 01, the elements file of docs/FORMATS.md and the state of a day of include/yurdelmiz.h, in plain Rust:
+//! what the proved library is compared with.
 //!
 //! Written from these alone. Each module has one of its subjects; quotients are cut toward
 //! zero unless the document says "down", as `/` and `div_euclid` do.
 
+pub mod day_bytes;
 pub mod eclipse;
 pub mod elements_file;
 pub mod file;
@@ -11,6 +12,7 @@ pub mod kepler;
 pub mod label;
 pub mod listing;
 pub mod orbit;
+pub mod packets;
 pub mod refusal;
 pub mod salvage;
 pub mod sine;

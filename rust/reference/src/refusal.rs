@@ -19,10 +19,11 @@ pub enum Refusal {
     EpochRevolution = 7,
     /// Epoch or time outside the years covered, or too far apart.
     Time = 8,
-    /// Telemetry that is no whole number of records, or over 1,024 of them, with the labels of the file that
-    /// it is added to.
+    /// Telemetry that is no whole number of records, or over 1,024 of them, with the labels of the file or day
+    /// that it is added to.
     TelemetryLength = 10,
-    /// Output, or room from a file's first label on, too short for the labels and the trailer.
+    /// Output, or room from a file's first label on, too short for the labels and the trailer; of a packet for
+    /// its labels, of closing for the trailer.
     OutputLength = 11,
     /// Length or trailer of a label file, or how many bytes its tail has.
     Trailer = 12,
@@ -33,6 +34,8 @@ pub enum Refusal {
     /// Half the mean motion's derivative beyond ±1,000,000, or the mean motion less 60 times its size
     /// below 20,000,000.
     MeanMotionDerivative = 16,
+    /// A day that is closed, or a state that is none of a day.
+    Day = 24,
 }
 
 impl Refusal {
@@ -42,8 +45,8 @@ impl Refusal {
     }
 }
 
-/// A refusal from labelling, reading or adding, with the number of the record or label over the whole day or
-/// file.
+/// A refusal from labelling, packets, reading or adding, with the number of the record or label over the whole
+/// day or file.
 #[derive(Clone, Copy, Debug, PartialEq, Eq)]
 pub struct Refused {
     pub refusal: Refusal,

@@ -1,6 +1,6 @@
 //! Salvage: the whole labels that damaged bytes begin with, kept under a fresh trailer.
 
-use crate::file::{check_room, labels_in, WRITTEN};
+use crate::file::{check_room, labels_in, write_trailer};
 use crate::label::LABEL_BYTES;
 use crate::refusal::Refusal;
 use crate::telemetry::RECORDS_MAX;
@@ -28,6 +28,6 @@ pub fn salvage(bytes: &[u8], output: &mut [u8]) -> Result<Salvaged, Refusal> {
     let kept = labels * LABEL_BYTES;
     let (body, rest) = output.split_at_mut(kept);
     body.copy_from_slice(&bytes[..kept]);
-    rest[..WRITTEN.bytes()].copy_from_slice(&counts.trailer(WRITTEN));
+    write_trailer(&counts, rest);
     Ok(Salvaged { labels: counts.labels, dropped: (bytes.len() - kept) as u64 })
 }

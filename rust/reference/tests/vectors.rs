@@ -3,12 +3,13 @@
 use reference::eclipse::shade;
 use reference::file::{add, label_day, read};
 use reference::orbit::Position;
+use reference::packets;
 use reference::salvage::{salvage, Salvaged};
 use reference::sun::{sun, Direction};
 use reference::tail::dark_test;
 use reference::trailer::Counts;
 use reference::{kepler, Refusal};
-use vectors::{Elements, Labeller, Refused};
+use vectors::{Day, Elements, Labeller, Refused};
 
 struct Reference;
 
@@ -31,6 +32,21 @@ fn elements(elements: Elements) -> reference::orbit::Elements {
 
 fn refused(refused: reference::Refused) -> Refused {
     (refused.refusal.number(), refused.place)
+}
+
+fn day(day: &Day) -> packets::Day {
+    let Day { elements: set, closed, have, held, counts } = *day;
+    let [labels, training, test, dark, dark_test] = counts;
+    let counts = Counts { labels, training, test, dark, dark_test };
+    packets::Day { elements: elements(set), closed, have, held, counts }
+}
+
+/// The state that a call leaves, with elements that it may not change.
+fn put_back(day: &mut Day, left: &packets::Day) {
+    assert_eq!(left.elements, elements(day.elements));
+    let Counts { labels, training, test, dark, dark_test } = left.counts;
+    let counts = [labels, training, test, dark, dark_test];
+    *day = Day { closed: left.closed, have: left.have, held: left.held, counts, ..*day };
 }
 
 impl Labeller for Reference {
@@ -103,6 +119,27 @@ impl Labeller for Reference {
     fn salvage(&self, bytes: &[u8], output: &mut [u8]) -> Result<(u32, u64), u32> {
         let Salvaged { labels, dropped } = salvage(bytes, output).map_err(Refusal::number)?;
         Ok((labels, dropped))
+    }
+
+    fn open(&self, set: Elements) -> Result<Day, u32> {
+        let opened = packets::Day::open(&elements(set)).map_err(Refusal::number)?;
+        let mut day = Day { elements: set, closed: true, have: 1, held: [1; 15], counts: [1; 5] };
+        put_back(&mut day, &opened);
+        Ok(day)
+    }
+
+    fn packet(&self, state: &mut Day, packet: &[u8], output: &mut [u8]) -> Result<usize, Refused> {
+        let mut left = day(state);
+        let labels = left.packet(packet, output).map_err(refused);
+        put_back(state, &left);
+        labels
+    }
+
+    fn close(&self, state: &mut Day, output: &mut [u8]) -> Result<(), Refused> {
+        let mut left = day(state);
+        let closed = left.close(output).map(|_| ()).map_err(refused);
+        put_back(state, &left);
+        closed
     }
 }
 

@@ -4,7 +4,8 @@ use std::fmt::Display;
 use std::str::{FromStr, SplitWhitespace};
 
 /// The vectors, with the number of their lines; the head of a file says what a line holds.
-const VECTORS: [(&str, usize); 3] = [
+const VECTORS: [(&str, usize); 4] = [
+    (include_str!("../../../vectors/K01.txt"), 666),
     (include_str!("../../../vectors/K04.txt"), 1_760),
     (include_str!("../../../vectors/K05.txt"), 410),
     (include_str!("../../../vectors/K12.txt"), 152),
@@ -17,6 +18,7 @@ const FILL: u8 = 0xaa;
 pub type Refused = (u32, u32);
 
 /// Elements, named as in document 01's text.
+#[derive(Clone, Copy, Debug, PartialEq, Eq)]
 pub struct Elements {
     pub eccentricity: u32,
     pub semi_major_axis: u32,
@@ -30,6 +32,21 @@ pub struct Elements {
     pub epoch_revolution: u32,
     pub epoch: i64,
     pub half_mean_motion_derivative: i32,
+}
+
+/// The most bytes of an unfinished record.
+const HELD_MAX: usize = 15;
+
+/// The state of a day that takes packets.
+#[derive(Clone, Copy, Debug, PartialEq, Eq)]
+pub struct Day {
+    pub elements: Elements,
+    pub closed: bool,
+    /// How many bytes of an unfinished record are held.
+    pub have: u8,
+    pub held: [u8; HELD_MAX],
+    /// Labels, training, test, dark and dark test.
+    pub counts: [u32; 5],
 }
 
 /// What the vectors ask. Answers are in the order of a line; a refusal is its number.
@@ -54,6 +71,10 @@ pub trait Labeller {
     fn tail(&self, tail: &[u8], length: u64) -> Result<Option<u32>, u32>;
     /// The labels kept, and the bytes dropped.
     fn salvage(&self, bytes: &[u8], output: &mut [u8]) -> Result<(u32, u64), u32>;
+    fn open(&self, elements: Elements) -> Result<Day, u32>;
+    /// The labels written.
+    fn packet(&self, day: &mut Day, packet: &[u8], output: &mut [u8]) -> Result<usize, Refused>;
+    fn close(&self, day: &mut Day, output: &mut [u8]) -> Result<(), Refused>;
 }
 
 /// The words of a line's inputs, taken one after another.
@@ -100,6 +121,20 @@ impl<'a> Inputs<'a> {
             half_mean_motion_derivative: self.number(),
         }
     }
+
+    fn day(&mut self) -> Day {
+        Day {
+            elements: self.elements(),
+            closed: match self.word() {
+                "0" => false,
+                "1" => true,
+                word => panic!("a day is not closed by {word}"),
+            },
+            have: self.number(),
+            held: self.bytes().try_into().expect("15 bytes"),
+            counts: [0; 5].map(|_| self.number()),
+        }
+    }
 }
 
 /// The text of an accepted answer.
@@ -117,6 +152,23 @@ fn refused_at((number, place): Refused) -> String {
 
 fn hex(bytes: &[u8]) -> String {
     bytes.iter().map(|byte| format!("{byte:02x}")).collect()
+}
+
+/// The same, and `-` for none.
+fn hex_or_dash(bytes: &[u8]) -> String {
+    if bytes.is_empty() {
+        "-".to_string()
+    } else {
+        hex(bytes)
+    }
+}
+
+/// The bytes that a day holds, behind which are zeros, and its counts.
+fn state(day: &Day) -> Vec<String> {
+    let (held, behind) = day.held.split_at(day.have.into());
+    assert!(behind.iter().all(|byte| *byte == 0), "zeros behind the bytes held");
+    let counts = day.counts.iter().map(u32::to_string);
+    [hex_or_dash(held)].into_iter().chain(counts).collect()
 }
 
 /// What a call gives and leaves in an output of `room` bytes; a refusal leaves it as it was.
@@ -176,6 +228,43 @@ fn answer(labeller: &impl Labeller, subject: &str, mut inputs: Inputs) -> String
                     accepted([kept.to_string(), dropped.to_string(), hex(&output)])
                 },
             )
+        }
+        "open" => {
+            let elements = inputs.elements();
+            match labeller.open(elements) {
+                Ok(day) => {
+                    let held = [0; HELD_MAX];
+                    let opened = Day { elements, closed: false, have: 0, held, counts: [0; 5] };
+                    assert_eq!(day, opened, "the state of a day that was opened");
+                    "ok".to_string()
+                }
+                Err(number) => refused(number),
+            }
+        }
+        "packet" => {
+            let before = inputs.day();
+            let packet = inputs.bytes();
+            let mut day = before;
+            let outcome =
+                lend(inputs.number(), |output| labeller.packet(&mut day, &packet, output));
+            let kept = if outcome.is_ok() {
+                Day { have: day.have, held: day.held, counts: day.counts, ..before }
+            } else {
+                before
+            };
+            assert_eq!(day, kept, "what stays of a day");
+            outcome.map_or_else(refused_at, |(labels, output)| {
+                let words = [labels.to_string()].into_iter().chain(state(&day));
+                accepted(words.chain([hex_or_dash(&output)]))
+            })
+        }
+        "close" => {
+            let before = inputs.day();
+            let mut day = before;
+            let outcome = lend(inputs.number(), |output| labeller.close(&mut day, output));
+            let closed = outcome.is_ok() || before.closed;
+            assert_eq!(day, Day { closed, ..before }, "what stays of a day");
+            outcome.map_or_else(refused_at, |((), output)| accepted([hex(&output)]))
         }
         _ => panic!("no subject {subject}"),
     }
