@@ -1,6 +1,6 @@
 //! The C interface, as include/yurdelmiz.h describes it.
 
-/// Status of a call whose `elements` or `answer` has a wrong length.
+/// Status of a call whose `elements`, `day` or `answer` has a wrong length.
 pub const BAD_BUFFER: u32 = 255;
 
 /// Status of [`yurdelmiz_elements`]: a line does not begin with the name that is due, and a space.
@@ -24,6 +24,8 @@ pub const MALFORMED_TOO_LONG: u32 = 109;
 
 /// Length of `elements`.
 pub const ELEMENTS_BYTES: usize = 52;
+/// Length of `day`, the state of a day that takes packets.
+pub const DAY_BYTES: usize = 89;
 /// Length of the answer of [`yurdelmiz_kepler`].
 pub const KEPLER_BYTES: usize = 8;
 /// Length of the answer of [`yurdelmiz_sun`].
@@ -144,4 +146,26 @@ extern "C" {
         answer: *mut u8,
         answer_len: usize,
     ) -> u32;
+
+    /// Opens a day.
+    pub fn yurdelmiz_open(
+        elements: *const u8,
+        elements_len: usize,
+        day: *mut u8,
+        day_len: usize,
+    ) -> u32;
+
+    /// Takes a packet of a day's telemetry.
+    pub fn yurdelmiz_packet(
+        day: *mut u8,
+        day_len: usize,
+        packet: *const u8,
+        packet_len: usize,
+        output: *mut u8,
+        output_len: usize,
+    ) -> u64;
+
+    /// Closes a day.
+    pub fn yurdelmiz_close(day: *mut u8, day_len: usize, output: *mut u8, output_len: usize)
+        -> u64;
 }

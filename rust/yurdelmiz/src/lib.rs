@@ -6,7 +6,7 @@
 //!
 //! ```
 //! use yurdelmiz::{add_to_vec, dark_test, label_to_vec, parse_elements, salvage_to_vec};
-//! use yurdelmiz::{LabelFile, Reading, Salvaged, Sample, Shade, Side};
+//! use yurdelmiz::{Day, LabelFile, Reading, Salvaged, Sample, Shade, Side};
 //!
 //! let elements = parse_elements(
 //!     b"eccentricity 6100000
@@ -43,12 +43,21 @@
 //! let (saved, salvaged) = salvage_to_vec(&bytes[..40]);
 //! assert_eq!(salvaged, Salvaged { labels: 1, dropped: 16 });
 //! assert_eq!(saved, label_to_vec(&elements, &sample.to_bytes())?);
+//!
+//! // The day in packets, which split its second record.
+//! let telemetry = [sample.to_bytes(), later.to_bytes()].concat();
+//! let mut day = Day::open(&elements)?;
+//! let mut file = day.packet_to_vec(&telemetry[..20])?;
+//! file.extend(day.packet_to_vec(&telemetry[20..])?);
+//! file.extend(day.close_to_vec()?);
+//! assert_eq!(file, bytes);
 //! # Ok::<(), Box<dyn std::error::Error>>(())
 //! ```
 
 #![deny(missing_docs)]
 
 mod bytes;
+mod day;
 mod eclipse;
 mod elements;
 mod elements_file;
@@ -67,6 +76,7 @@ mod trailer;
 mod trig;
 mod unknown_byte;
 
+pub use day::Day;
 pub use eclipse::{shade, Shade};
 pub use elements::Elements;
 pub use elements_file::{parse_elements, Element, Fault, Malformed};

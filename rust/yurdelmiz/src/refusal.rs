@@ -24,10 +24,11 @@ pub enum Refusal {
     /// 2,592,000 s where the mean motion's derivative is not 0.
     Time,
     /// 10: no multiple of 16 bytes, or over 1,024 records, with the labels of the file that they are
-    /// added to.
+    /// added to; of packets, a 1,025th record, or a day closed within a record.
     TelemetryLength,
     /// 11: shorter than 24 bytes a record and 24; in adding, for the labels of the file too, from the
-    /// first of them on; in salvage, for the labels kept.
+    /// first of them on; in salvage, for the labels kept; of a packet, shorter than 24 bytes for each record
+    /// that it completes, and of closing than 24.
     OutputLength,
     /// 12: a label file's length, a number of its trailer, or how many bytes its tail has.
     Trailer,
@@ -38,10 +39,12 @@ pub enum Refusal {
     /// 16: half of it beyond 1,000,000 units of 10^-8 revolution a day squared either way, or the mean
     /// motion less 60 times its size below 20,000,000 units.
     MeanMotionDerivative,
+    /// 24: closed, or no state of a day.
+    Day,
 }
 
 /// Each refusal with its number and its sentence.
-const TABLE: [(Refusal, u32, &str); 14] = [
+const TABLE: [(Refusal, u32, &str); 15] = [
     (Refusal::Eccentricity, 1, "the eccentricity is above 0.9"),
     (Refusal::SemiMajorAxis, 2, "the semi-major axis is not within 6,600 to 100,000 km"),
     (Refusal::PerigeeDistance, 3, "the perigee is less than 6,478 km from the Earth's centre"),
@@ -56,6 +59,7 @@ const TABLE: [(Refusal, u32, &str); 14] = [
     (Refusal::Labels, 13, "a label breaks the rules, or the trailer's counts are not those of the labels"),
     (Refusal::Component, 14, "a position or the Sun's direction is out of range"),
     (Refusal::MeanMotionDerivative, 16, "half the mean motion's derivative is beyond 0.01 revolutions a day squared, or brings the mean motion below 0.2 revolutions a day within 30 days of the epoch"),
+    (Refusal::Day, 24, "the day is closed, or its state is none of a day"),
 ];
 
 impl Refusal {
@@ -87,8 +91,8 @@ impl fmt::Display for Refusal {
 
 impl Error for Refusal {}
 
-/// A refusal from labelling, reading or adding, with the number of the record or label from 0, which in
-/// adding counts over the whole file.
+/// A refusal from labelling, packets, reading or adding, with the number of the record or label from 0, which in
+/// packets counts over the whole day, and in adding over the whole file.
 #[derive(Clone, Copy, Debug, PartialEq, Eq, Hash)]
 pub struct Refused {
     /// Why.

@@ -40,7 +40,7 @@ impl Form {
     /// Both forms.
     pub const ALL: [Form; 2] = [Form::Bytes16, Form::Bytes24];
 
-    /// The form that labelling, adding and salvage write.
+    /// The form that labelling, adding, salvage and closing a day write.
     pub const WRITTEN: Form = Form::Bytes24;
 
     /// The bytes of the trailer.

@@ -1,6 +1,6 @@
 //! The proved library answers every vector.
 
-use vectors::{Elements, Labeller, Refused};
+use vectors::{Day, Elements, Labeller, Refused};
 use yurdelmiz::{Counts, Direction, Position, Refusal, Salvaged};
 
 struct Library;
@@ -24,6 +24,26 @@ fn elements(elements: Elements) -> yurdelmiz::Elements {
 
 fn refused(refused: yurdelmiz::Refused) -> Refused {
     (refused.refusal.number(), refused.place)
+}
+
+/// The state's bytes: the elements, the counts, closed, and what is held.
+fn day(day: &Day) -> yurdelmiz::Day {
+    let bytes = [
+        &elements(day.elements).to_bytes()[..],
+        &day.counts.map(u32::to_le_bytes).concat(),
+        &[u8::from(day.closed), day.have],
+        &day.held,
+    ];
+    yurdelmiz::Day::from_bytes(&bytes.concat().try_into().expect("89 bytes"))
+}
+
+/// The state that a call leaves, with elements that it may not change.
+fn put_back(day: &mut Day, left: &yurdelmiz::Day) {
+    assert_eq!(left.elements(), elements(day.elements));
+    let Counts { labels, training, test, dark, dark_test } = left.counts();
+    let counts = [labels, training, test, dark, dark_test];
+    let held = left.to_bytes()[74..].try_into().expect("15 bytes");
+    *day = Day { closed: left.is_closed(), have: left.held(), held, counts, ..*day };
 }
 
 impl Labeller for Library {
@@ -99,6 +119,27 @@ impl Labeller for Library {
         let Salvaged { labels, dropped } =
             yurdelmiz::salvage(bytes, output).map_err(Refusal::number)?;
         Ok((labels, dropped))
+    }
+
+    fn open(&self, set: Elements) -> Result<Day, u32> {
+        let opened = yurdelmiz::Day::open(&elements(set)).map_err(Refusal::number)?;
+        let mut day = Day { elements: set, closed: true, have: 1, held: [1; 15], counts: [1; 5] };
+        put_back(&mut day, &opened);
+        Ok(day)
+    }
+
+    fn packet(&self, state: &mut Day, packet: &[u8], output: &mut [u8]) -> Result<usize, Refused> {
+        let mut left = day(state);
+        let labels = left.packet(packet, output).map_err(refused);
+        put_back(state, &left);
+        labels
+    }
+
+    fn close(&self, state: &mut Day, output: &mut [u8]) -> Result<(), Refused> {
+        let mut left = day(state);
+        let closed = left.close(output).map(|_| ()).map_err(refused);
+        put_back(state, &left);
+        closed
     }
 }
 
