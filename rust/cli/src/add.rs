@@ -21,7 +21,7 @@ fn run(arguments: &Arguments) -> Result<(), Failure> {
     let mut file = input::read_whole(labels_path)?;
     let day = Day::read(elements_path, telemetry_path, arguments.has("--csv"))?;
     let telemetry = &day.telemetry.bytes;
-    match add_to_vec(&day.elements, &mut file.bytes, telemetry) {
+    match add_to_vec(&day.elements.elements, &mut file.bytes, telemetry) {
         Ok(counts) => {
             let records = telemetry.len() / Sample::SIZE;
             label_output::write(labels_path, &file.bytes, &format!("added {records} "), counts)

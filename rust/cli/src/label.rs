@@ -19,7 +19,7 @@ fn run(arguments: &Arguments) -> Result<(), Failure> {
     let [elements_path, telemetry_path, labels_path] = [0, 1, 2].map(|at| arguments.path(at));
     label_output::check(&COMMAND, labels_path, &[elements_path, telemetry_path])?;
     let day = Day::read(elements_path, telemetry_path, arguments.has("--csv"))?;
-    let file = match label_to_vec(&day.elements, &day.telemetry.bytes) {
+    let file = match label_to_vec(&day.elements.elements, &day.telemetry.bytes) {
         Ok(file) => file,
         Err(refused) => {
             stdout::print(&format!("{refused}\n"))?;

@@ -11,6 +11,7 @@ mod dark_test;
 mod date;
 mod day_input;
 mod decimal;
+mod elements_input;
 mod elements_report;
 mod failure;
 mod help;
@@ -24,6 +25,7 @@ mod output;
 mod plot;
 mod quote;
 mod refused_day;
+mod refused_elements;
 mod refused_file;
 mod salvage;
 #[allow(unsafe_code)]

@@ -1,8 +1,9 @@
 //! Telemetry as `label` and `add` read it: records of 16 bytes, or CSV turned into them.
 
+use std::fs;
 use std::path::Path;
 
-use yurdelmiz::Sample;
+use yurdelmiz::{LabelFile, Sample};
 
 use crate::failure::Failure;
 use crate::input::{self, looks_like_text, Start};
@@ -15,44 +16,53 @@ use crate::telemetry_csv::{self, BadLine, Row};
 const LONGEST: usize = 1_024 * Sample::SIZE;
 
 /// A file as it was read.
-pub struct TelemetryFile {
+pub struct TelemetryFile<'a> {
+    path: &'a Path,
     start: Start,
     csv: bool,
 }
 
-impl TelemetryFile {
+impl<'a> TelemetryFile<'a> {
     /// Reads the file, as CSV where that is said or its name ends in .csv.
-    pub fn read(path: &Path, csv: bool) -> Result<TelemetryFile, Failure> {
+    pub fn read(path: &'a Path, csv: bool) -> Result<TelemetryFile<'a>, Failure> {
         let csv = csv || path.extension().is_some_and(|end| end.eq_ignore_ascii_case("csv"));
         let most = if csv { telemetry_csv::LONGEST } else { LONGEST };
-        Ok(TelemetryFile { start: input::read_start(path, most)?, csv })
+        Ok(TelemetryFile { path, start: input::read_start(path, most)?, csv })
     }
 
-    pub fn records(&self) -> Result<Telemetry, BadLine> {
+    pub fn records(&self) -> Result<Telemetry<'a>, BadLine> {
+        let path = self.path;
         if !self.csv {
             let (bytes, length) = (self.start.bytes.clone(), self.start.length);
-            return Ok(Telemetry { bytes, length, rows: None });
+            return Ok(Telemetry { path, bytes, length, rows: None });
         }
         let rows = telemetry_csv::parse(&self.start.bytes)?;
         let bytes: Vec<u8> = rows.iter().flat_map(|row| row.sample.to_bytes()).collect();
-        Ok(Telemetry { length: Some(bytes.len() as u64), bytes, rows: Some(rows) })
+        Ok(Telemetry { path, length: Some(bytes.len() as u64), bytes, rows: Some(rows) })
     }
 
     /// File, line, what is wrong and what stands there.
-    pub fn failure(&self, path: &Path, bad: &BadLine) -> Failure {
+    pub fn failure(&self, bad: &BadLine) -> Failure {
         let found = malformed::found(&self.start.bytes, bad.line);
-        Failure::refused(format!("{}, line {}: {}; {found}", quote::path(path), bad.line, bad.what))
+        let (path, BadLine { line, what }) = (quote::path(self.path), bad);
+        Failure::refused(format!("{path}, line {line}: {what}; {found}"))
     }
 }
 
 /// Records of 16 bytes, as the library takes them.
-pub struct Telemetry {
+pub struct Telemetry<'a> {
+    path: &'a Path,
     pub bytes: Vec<u8>,
     length: Option<u64>,
     rows: Option<Vec<Row>>,
 }
 
-impl Telemetry {
+impl Telemetry<'_> {
+    /// What a message calls it.
+    pub fn name(&self) -> String {
+        quote::path(self.path)
+    }
+
     /// The length of all records, where it is known.
     pub fn length(&self) -> Option<u64> {
         self.length
@@ -69,6 +79,14 @@ impl Telemetry {
     pub fn time(&self, number: usize) -> Option<i64> {
         let record = self.bytes.chunks_exact(Sample::SIZE).nth(number)?;
         Some(Sample::from_bytes(record.try_into().ok()?).time)
+    }
+
+    /// Whether it is what `label` writes.
+    pub fn is_label_file(&self) -> bool {
+        let regular = fs::metadata(self.path).is_ok_and(|metadata| metadata.is_file());
+        regular
+            && input::read_end(self.path, LabelFile::LONGEST)
+                .is_ok_and(|end| LabelFile::read(&end.bytes).is_ok())
     }
 
     /// Whether it was read as records and could be text.
