@@ -43,7 +43,7 @@ impl Failure {
         Failure { status: Status::Refused, message: what.to_string() }
     }
 
-    /// Files that could not be read, each told in a line of its own.
+    /// What could not be read and has no path: standard input, or files that are each told in a line of their own.
     pub fn unread(what: impl Display) -> Failure {
         Failure { status: Status::File, message: what.to_string() }
     }

@@ -19,6 +19,7 @@ mod input;
 mod label;
 mod label_input;
 mod label_output;
+mod label_stream;
 mod list;
 mod malformed;
 mod output;
@@ -30,6 +31,8 @@ mod refused_file;
 mod salvage;
 #[allow(unsafe_code)]
 mod signals;
+#[allow(unsafe_code)]
+mod standard_input;
 mod stdout;
 mod telemetry_csv;
 mod telemetry_input;

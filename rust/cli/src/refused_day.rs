@@ -8,6 +8,14 @@ use crate::day_input::Day;
 use crate::decimal::grouped;
 use crate::failure::Failure;
 use crate::refused_elements::{out_of_range, OUTSIDE};
+use crate::standard_input;
+use crate::telemetry_input::Source;
+
+/// Behind a number of records that is over it.
+const MOST: &str = "and a day has at most 1,024";
+
+/// What to do with a label file in the place of telemetry.
+const ORDER: &str = "the order is ELEMENTS TELEMETRY LABELS";
 
 /// Why the day was refused, after so many labels of the file that it was added to.
 pub fn failure(day: &Day, before: u32, refused: Refused) -> Failure {
@@ -22,41 +30,65 @@ pub fn failure(day: &Day, before: u32, refused: Refused) -> Failure {
 
 impl Day<'_> {
     fn length(&self, before: u32) -> String {
-        let path = self.telemetry.name();
-        if self.telemetry.is_label_file() {
-            return format!("{path}: it is a label file: the order is ELEMENTS TELEMETRY LABELS");
-        }
-        let Some(length) = self.telemetry.length() else {
-            return format!(
-                "{path}: over 16,384 bytes: label it in parts of at most 1,024 records"
-            );
+        let why = if self.telemetry.is_label_file() {
+            format!("it is a label file: {ORDER}")
+        } else {
+            match self.telemetry.source {
+                Source::File(_) => self.file_length(before),
+                Source::StandardInput => self.stream_length(),
+            }
         };
-        let (records, rest) = (length / Sample::SIZE as u64, length % Sample::SIZE as u64);
+        format!("{}: {why}", self.telemetry.name())
+    }
+
+    fn file_length(&self, before: u32) -> String {
+        let Some(length) = self.telemetry.length() else {
+            return "over 16,384 bytes: label it in parts of at most 1,024 records".to_owned();
+        };
+        let (records, rest) = whole_records(length);
         if rest == 0 && before > 0 {
             return format!(
-                "{path}: {} records, and the file has {} labels: it has room for {} more, 1,024 in all",
+                "{} records, and the file has {} labels: it has room for {} more, 1,024 in all",
                 grouped(records),
                 grouped(before),
                 grouped(LabelFile::MOST_LABELS as u64 - u64::from(before)),
             );
         }
         if rest == 0 {
-            return format!(
-                "{path}: {} records, and a day has at most 1,024: label it in parts",
-                grouped(records)
-            );
+            return format!("{} records, {MOST}: label it in parts", grouped(records));
         }
         let told = format!(
-            "{path}: {} bytes are {} records of 16 and {rest} more",
+            "{} bytes are {} records of 16 and {rest} more",
             grouped(length),
             grouped(records)
         );
+        self.with_advice(told, "is the file cut short, or no telemetry?")
+    }
+
+    /// A record too many, or an end within a record.
+    fn stream_length(&self) -> String {
+        let Some(length) = self.telemetry.length() else {
+            return self.with_advice(format!("a 1,025th record came, {MOST}"), "label it in parts");
+        };
+        let (records, rest) = whole_records(length);
+        let place = self.telemetry.place(records as usize);
+        let told = format!("it ended within {place}, after {rest} of its 16 bytes");
+        self.with_advice(told, "is it cut short, or no telemetry?")
+    }
+
+    /// What is wrong and what to do, which of text is to name it as CSV.
+    fn with_advice(&self, told: String, advice: &str) -> String {
         if self.telemetry.looks_like_csv() {
-            format!(
-                "{told}: it looks like text; CSV has a name that ends in .csv, or the option --csv"
-            )
+            format!("{told}: it looks like text; {}", self.csv_advice())
         } else {
-            format!("{told}: is the file cut short, or no telemetry?")
+            format!("{told}: {advice}")
+        }
+    }
+
+    fn csv_advice(&self) -> &'static str {
+        match self.telemetry.source {
+            Source::File(_) => "CSV has a name that ends in .csv, or the option --csv",
+            Source::StandardInput => "CSV is read from a file, or from /dev/stdin with --csv",
         }
     }
 
@@ -89,12 +121,16 @@ impl Day<'_> {
         };
         if let Some(hint) = self.unix_hint(time) {
             told.push_str(&hint);
-        } else if self.telemetry.is_label_file() {
-            told.push_str("; the file is a label file: the order is ELEMENTS TELEMETRY LABELS");
+            return told;
+        }
+        let whole = match self.telemetry.source {
+            Source::File(_) => "the file",
+            Source::StandardInput => standard_input::NAME,
+        };
+        if self.telemetry.is_label_file() {
+            told.push_str(&format!("; {whole} is a label file: {ORDER}"));
         } else if self.telemetry.looks_like_csv() {
-            told.push_str(
-                "; the file looks like text: CSV has a name that ends in .csv, or the option --csv",
-            );
+            told.push_str(&format!("; {whole} looks like text: {}", self.csv_advice()));
         }
         told
     }
@@ -110,6 +146,11 @@ impl Day<'_> {
         let set = Elements { epoch: moved, ..elements };
         reached(&set, time).then(|| unix("the epoch", moved))
     }
+}
+
+/// How many records some bytes are, and how many bytes are left.
+fn whole_records(length: u64) -> (u64, u64) {
+    (length / Sample::SIZE as u64, length % Sample::SIZE as u64)
 }
 
 fn unix(what: &str, moved: i64) -> String {

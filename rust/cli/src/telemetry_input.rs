@@ -1,4 +1,5 @@
-//! Telemetry as `label` and `add` read it: records of 16 bytes, or CSV turned into them.
+//! Telemetry as `label` and `add` read it: records of 16 bytes, or CSV turned into them; or what came on standard
+//! input.
 
 use std::fs;
 use std::path::Path;
@@ -9,6 +10,7 @@ use crate::failure::Failure;
 use crate::input::{self, looks_like_text, Start};
 use crate::malformed;
 use crate::quote;
+use crate::standard_input;
 use crate::telemetry_csv::{self, BadLine, Row};
 
 /// 1,024 records. One byte more is read, by which a longer file is known: it is refused for its length, however
@@ -31,14 +33,14 @@ impl<'a> TelemetryFile<'a> {
     }
 
     pub fn records(&self) -> Result<Telemetry<'a>, BadLine> {
-        let path = self.path;
+        let source = Source::File(self.path);
         if !self.csv {
             let (bytes, length) = (self.start.bytes.clone(), self.start.length);
-            return Ok(Telemetry { path, bytes, length, rows: None });
+            return Ok(Telemetry { source, bytes, length, rows: None });
         }
         let rows = telemetry_csv::parse(&self.start.bytes)?;
         let bytes: Vec<u8> = rows.iter().flat_map(|row| row.sample.to_bytes()).collect();
-        Ok(Telemetry { path, length: Some(bytes.len() as u64), bytes, rows: Some(rows) })
+        Ok(Telemetry { source, length: Some(bytes.len() as u64), bytes, rows: Some(rows) })
     }
 
     /// File, line, what is wrong and what stands there.
@@ -49,18 +51,34 @@ impl<'a> TelemetryFile<'a> {
     }
 }
 
+/// Where telemetry comes from.
+#[derive(Clone, Copy)]
+pub enum Source<'a> {
+    File(&'a Path),
+    StandardInput,
+}
+
 /// Records of 16 bytes, as the library takes them.
 pub struct Telemetry<'a> {
-    path: &'a Path,
+    pub source: Source<'a>,
     pub bytes: Vec<u8>,
     length: Option<u64>,
     rows: Option<Vec<Row>>,
 }
 
-impl Telemetry<'_> {
+impl<'a> Telemetry<'a> {
+    /// What came on standard input, to its end or not.
+    pub fn streamed(bytes: Vec<u8>, ended: bool) -> Telemetry<'a> {
+        let length = ended.then_some(bytes.len() as u64);
+        Telemetry { source: Source::StandardInput, bytes, length, rows: None }
+    }
+
     /// What a message calls it.
     pub fn name(&self) -> String {
-        quote::path(self.path)
+        match self.source {
+            Source::File(path) => quote::path(path),
+            Source::StandardInput => standard_input::NAME.to_owned(),
+        }
     }
 
     /// The length of all records, where it is known.
@@ -81,12 +99,16 @@ impl Telemetry<'_> {
         Some(Sample::from_bytes(record.try_into().ok()?).time)
     }
 
-    /// Whether it is what `label` writes.
+    /// Whether it is what `label` writes; of standard input, what came so far.
     pub fn is_label_file(&self) -> bool {
-        let regular = fs::metadata(self.path).is_ok_and(|metadata| metadata.is_file());
-        regular
-            && input::read_end(self.path, LabelFile::LONGEST)
-                .is_ok_and(|end| LabelFile::read(&end.bytes).is_ok())
+        match self.source {
+            Source::File(path) => {
+                fs::metadata(path).is_ok_and(|metadata| metadata.is_file())
+                    && input::read_end(path, LabelFile::LONGEST)
+                        .is_ok_and(|end| LabelFile::read(&end.bytes).is_ok())
+            }
+            Source::StandardInput => LabelFile::read(&self.bytes).is_ok(),
+        }
     }
 
     /// Whether it was read as records and could be text.
