@@ -2,9 +2,9 @@
 //!
 //!     differential [--seed N] [--count N]
 //!
-//! Each cheap subject gets `count` comparisons (1,000,000 where none is given), elements files, tails and salvage
-//! a tenth of it, labelling, reading and adding a hundredth in days and files. The same seed gives the same
-//! inputs.
+//! Each cheap subject gets `count` comparisons (1,000,000 where none is given), elements files, tails, salvage and
+//! packets a tenth of it, labelling, reading and adding a hundredth in days and files. The same seed gives the
+//! same inputs.
 
 mod additions;
 mod answers;
@@ -15,6 +15,7 @@ mod files;
 mod inputs;
 mod label_files;
 mod numbers;
+mod packets;
 mod random;
 mod report;
 mod salvages;
@@ -57,7 +58,7 @@ fn main() -> ExitCode {
         return ExitCode::from(2);
     };
     println!("seed {seed}");
-    let subjects: [(&str, u64, Subject); 14] = [
+    let subjects: [(&str, u64, Subject); 15] = [
         ("sine", count, numbers::sine),
         ("kepler", count, numbers::kepler),
         ("position", count, numbers::position),
@@ -72,6 +73,7 @@ fn main() -> ExitCode {
         ("add", count / 100, additions::adding),
         ("tail", count / 10, tails::tail),
         ("salvage", count / 10, salvages::salvage),
+        ("packets", count / 10, packets::packets),
     ];
     let mut differences = 0;
     for (number, (name, rounds, compare)) in subjects.into_iter().enumerate() {
