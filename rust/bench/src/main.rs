@@ -2,6 +2,7 @@
 //!
 //!     bench [REPEATS]
 //!     bench once RECORDS      labels, reads and salvages one day, for a counter of instructions
+//!     bench packets RECORDS BYTES     labels one day in packets of so many bytes, for the same
 //!     bench kepler ECCENTRICITY SOLUTIONS     solves Kepler's equation, for the same
 //!     bench root ROOTS        takes square roots, for the same
 //!
@@ -12,6 +13,7 @@ use std::hint::black_box;
 use std::time::{Duration, Instant};
 
 use reference::file::file_bytes;
+use reference::label::LABEL_BYTES;
 use reference::tail::TAIL_BYTES;
 
 /// How long one timing lasts, about.
@@ -179,6 +181,56 @@ fn label(repeats: usize, records: usize) -> Comparison {
     comparison
 }
 
+/// A day from opening to closing, in packets of so many bytes.
+fn library_packets(day: &[u8], size: usize, output: &mut [u8]) {
+    let mut state = yurdelmiz::Day::open(&LIBRARY_ELEMENTS).expect("accepted elements");
+    let mut written = 0;
+    for packet in black_box(day).chunks(size) {
+        let labels = state.packet(packet, &mut output[written..]).expect("an accepted packet");
+        written += labels * LABEL_BYTES;
+    }
+    black_box(state.close(&mut output[written..]).expect("whole records"));
+}
+
+fn reference_packets(day: &[u8], size: usize, output: &mut [u8]) {
+    let mut state = reference::packets::Day::open(&ELEMENTS).expect("accepted elements");
+    let mut written = 0;
+    for packet in black_box(day).chunks(size) {
+        let labels = state.packet(packet, &mut output[written..]).expect("an accepted packet");
+        written += labels * LABEL_BYTES;
+    }
+    black_box(state.close(&mut output[written..]).expect("whole records"));
+}
+
+/// The longest day in packets.
+fn packets(repeats: usize, size: usize) -> Comparison {
+    let stock = telemetry(STOCK);
+    let mut outputs = [vec![0; file_bytes(DAY_RECORDS)], vec![0; file_bytes(DAY_RECORDS)]];
+    let [library_output, reference_output] = &mut outputs;
+    let (mut library_days, mut reference_days) =
+        (Days::new(&stock, DAY_RECORDS), Days::new(&stock, DAY_RECORDS));
+    let comparison = compare(
+        repeats,
+        &mut || library_packets(library_days.day(), size, library_output),
+        &mut || reference_packets(reference_days.day(), size, reference_output),
+    );
+    let day = Days::new(&stock, DAY_RECORDS).day();
+    library_packets(day, size, library_output);
+    reference_packets(day, size, reference_output);
+    assert_eq!(outputs[0], outputs[1], "the two label files");
+    comparison
+}
+
+/// A day in packets once by the library and once by the reference: to be run under a counter of instructions.
+fn packets_once(records: usize, size: usize) {
+    let day = telemetry(records);
+    let mut files = [vec![0; file_bytes(records)], vec![0; file_bytes(records)]];
+    let [library, reference] = &mut files;
+    library_packets(&day, size, library);
+    reference_packets(&day, size, reference);
+    assert_eq!(files[0], files[1], "the two label files");
+}
+
 /// Labels a day, reads it and salvages it without its trailer, once by the library and once by the reference:
 /// to be run under a counter of instructions.
 fn once(records: usize) {
@@ -340,7 +392,7 @@ fn roots(count: u32) {
 
 fn usage() -> ! {
     eprintln!(
-        "usage: bench [REPEATS]\n       bench once RECORDS\n       bench kepler ECCENTRICITY SOLUTIONS\n       bench root ROOTS"
+        "usage: bench [REPEATS]\n       bench once RECORDS\n       bench packets RECORDS BYTES\n       bench kepler ECCENTRICITY SOLUTIONS\n       bench root ROOTS"
     );
     std::process::exit(2);
 }
@@ -351,6 +403,12 @@ fn main() {
         [] => 21,
         ["once", records] => match records.parse() {
             Ok(records) if records <= DAY_RECORDS => return once(records),
+            _ => usage(),
+        },
+        ["packets", records, size] => match (records.parse(), size.parse()) {
+            (Ok(records), Ok(size)) if records <= DAY_RECORDS && size > 0 => {
+                return packets_once(records, size)
+            }
             _ => usage(),
         },
         ["kepler", eccentricity, count] => match (eccentricity.parse(), count.parse()) {
@@ -379,6 +437,8 @@ fn main() {
     print("asking their tail", &dark_test(repeats));
     print("salvaging them", &salvage(repeats));
     print("labelling 1,024 records", &label(repeats, DAY_RECORDS));
+    print("in packets of 100 bytes", &packets(repeats, 100));
+    print("in one packet", &packets(repeats, DAY_RECORDS * 16));
 
     println!("growth of labelling, a record: library, reference, library / reference");
     let mut records = 16;
