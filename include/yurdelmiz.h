@@ -329,7 +329,7 @@ uint32_t yurdelmiz_salvage(const uint8_t *bytes, size_t bytes_len,
  *    68  u32       dark test labels
  *    72  u8        1 where the day is closed, otherwise 0
  *    73  u8        bytes held of an unfinished record, 0 to 15
- *    74  15 bytes  those bytes, and zeros behind them
+ *    74  15 bytes  those bytes; opening and packets put zeros behind them
  *
  * `day` may hold any bytes. Refusal 24, before the others, where the day is closed, or byte 72 is neither 0
  * nor 1, or a refusal of yurdelmiz_open applies to the elements, or over 15 bytes are held, or the labels

@@ -5,6 +5,7 @@ mod common;
 
 use std::fs::{self, File, OpenOptions};
 use std::io::Write;
+use std::os::unix::process::CommandExt;
 use std::path::Path;
 use std::process::{Child, Stdio};
 use std::thread;
@@ -19,8 +20,11 @@ const TERM: i32 = 15;
 const CONT: i32 = 18;
 const STOP: i32 = 19;
 
+const DEFAULT: usize = 0;
+
 extern "C" {
     fn kill(process: i32, signal: i32) -> i32;
+    fn signal(number: i32, handler: usize) -> usize;
 }
 
 fn send(child: &Child, signal: i32) {
@@ -28,9 +32,19 @@ fn send(child: &Child, signal: i32) {
     assert_eq!(unsafe { kill(child.id() as i32, signal) }, 0);
 }
 
-/// The command with a pipe on its standard input.
+/// The command with a pipe on its standard input, and with no signal ignored, as a shell has what runs beside it
+/// ignore INT.
 fn start(folder: &Folder) -> Child {
     let mut command = folder.command(WORDS);
+    // SAFETY: `signal` may be called between fork and exec.
+    unsafe {
+        command.pre_exec(|| {
+            for number in [INT, TERM] {
+                signal(number, DEFAULT);
+            }
+            Ok(())
+        });
+    }
     command.stdin(Stdio::piped()).stdout(Stdio::piped()).stderr(Stdio::piped()).spawn().unwrap()
 }
 
