@@ -6,7 +6,7 @@ use lib.Dec.{eqb}
 use native.Mathlib.Omega.{arith}
 use Rattle.refusal.specs.Numbers.{numberOf}
 use Rattle.refusal.specs.declared.Refusal.{Refusal}
-use Rattle.refusal.specs.declared.Refusal.the-variants.{Eccentricity, SemiMajorAxis, PerigeeDistance, Inclination, MeanMotion, DriftRate, EpochRevolution, Time, TelemetryLength, OutputLength, Trailer, Labels, Component, MeanMotionDerivative, Day}
+use Rattle.refusal.specs.declared.Refusal.the-variants.{Eccentricity, SemiMajorAxis, PerigeeDistance, Inclination, MeanMotion, DriftRate, EpochRevolution, Time, TelemetryLength, OutputLength, Trailer, Labels, Component, Figures, MeanMotionDerivative, Day}
 
 numbers : (r : Refusal) → (1 ≤ numberOf r) × (numberOf r ≡ 9 → ⊥)
 numbers Eccentricity = (omega arith, omega arith)
@@ -22,6 +22,7 @@ numbers OutputLength = (omega arith, omega arith)
 numbers Trailer = (omega arith, omega arith)
 numbers Labels = (omega arith, omega arith)
 numbers Component = (omega arith, omega arith)
+numbers Figures = (omega arith, omega arith)
 numbers MeanMotionDerivative = (omega arith, omega arith)
 numbers Day = (omega arith, omega arith)
 
@@ -48,7 +49,8 @@ named n =
     (cond (eqb n 12) Trailer
     (cond (eqb n 13) Labels
     (cond (eqb n 14) Component
-    (cond (eqb n 16) MeanMotionDerivative Day)))))))))))))
+    (cond (eqb n 15) Figures
+    (cond (eqb n 16) MeanMotionDerivative Day))))))))))))))
 
 named-is : (r : Refusal) → named (numberOf r) ≡ r
 unfolding named
@@ -65,6 +67,7 @@ named-is OutputLength = refl
 named-is Trailer = refl
 named-is Labels = refl
 named-is Component = refl
+named-is Figures = refl
 named-is MeanMotionDerivative = refl
 named-is Day = refl
 

@@ -1,7 +1,7 @@
 -- The number of each refusal: document 01, "When the build says no". Assumes nothing.
 use Prim.Native.Nat.{ℕ}
 use Rattle.refusal.specs.declared.Refusal.{Refusal}
-use Rattle.refusal.specs.declared.Refusal.the-variants.{Eccentricity, SemiMajorAxis, PerigeeDistance, Inclination, MeanMotion, DriftRate, EpochRevolution, Time, TelemetryLength, OutputLength, Trailer, Labels, Component, MeanMotionDerivative, Day}
+use Rattle.refusal.specs.declared.Refusal.the-variants.{Eccentricity, SemiMajorAxis, PerigeeDistance, Inclination, MeanMotion, DriftRate, EpochRevolution, Time, TelemetryLength, OutputLength, Trailer, Labels, Component, Figures, MeanMotionDerivative, Day}
 
 abbrev pub numberOf : Refusal → ℕ
 -- e above 9,000,000
@@ -31,6 +31,8 @@ numberOf Trailer = 12
 numberOf Labels = 13
 -- a position or Sun component beyond the shade test's range
 numberOf Component = 14
+-- scale figures with 1,000 files or more already, or that no files have
+numberOf Figures = 15
 -- half the derivative of the mean motion beyond ±1,000,000, or n less 60 times its size below 20,000,000
 numberOf MeanMotionDerivative = 16
 -- a closed day, or what is no state of a day

@@ -16,6 +16,7 @@ pub enum Refusal {
     Trailer,
     Labels,
     Component,
+    Figures,
     MeanMotionDerivative,
     Day,
 }
@@ -39,6 +40,7 @@ impl Refusal {
             Refusal::Trailer => 12,
             Refusal::Labels => 13,
             Refusal::Component => 14,
+            Refusal::Figures => 15,
             Refusal::MeanMotionDerivative => 16,
             Refusal::Day => 24,
         }

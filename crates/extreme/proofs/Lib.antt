@@ -1,0 +1,3 @@
+pub mod FiniteTests
+pub mod FloatOrder
+pub mod ExtremeOrder

@@ -1,0 +1,5 @@
+pub mod Lists
+pub mod Bounds
+pub mod FigureLaws
+pub mod AllowedFigures
+pub mod FileLabels

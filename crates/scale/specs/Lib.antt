@@ -1,0 +1,4 @@
+pub mod Figures
+pub mod Step
+pub mod Files
+pub mod Contract
