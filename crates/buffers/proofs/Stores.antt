@@ -1,20 +1,14 @@
 -- What is stored in a buffer. Assumes nothing.
 use mathlib.Core.Path.{_≡_, refl, sym, _∙_}
-use mathlib.Core.List.{List, [], _∷_, append-nil}
+use mathlib.Core.List.{List, [], _∷_}
 use Prim.Native.Nat.{ℕ, _+_, _*_, _<_, _≤_}
 use native.Mathlib.Numerals.{add-one}
 use native.Mathlib.Omega.{arith}
 use lib.ListN.{length, getD, drop, drop-of-length-le}
-use lib.Seq.{sets, sets-eq, drop-cons}
+use lib.Seq.{sets, drop-cons}
 use Rattle.endian.specs.LittleEndian.{bytes4}
-use Rattle.endian.proofs.Stores.{sets-append}
+use Rattle.endian.proofs.Stores.{sets-append, over-all}
 use Rattle.buffers.specs.Answers.{words}
-
--- bytes over the whole of a buffer
-pub over-all : (l bs : List ℕ) → length l ≡ length bs → sets l 0 bs ≡ bs
-over-all l bs e =
-    let rest : drop (0 + length bs) l ≡ [] = drop-of-length-le l {i = 0 + length bs} (omega arith) in
-    sets-eq bs l 0 (omega arith) ∙ rw rest (append-nil bs)
 
 -- one number more leaves what the rest makes of it
 pub word-stored : (l : List ℕ) (at i : ℕ) (ws : List ℕ) → i < length ws →

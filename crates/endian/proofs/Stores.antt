@@ -3,9 +3,9 @@ use mathlib.Core.Path.{_≡_, refl, sym, ap, _∙_}
 use Prim.Native.Nat.{ℕ, suc, _+_, _/_, _%_}
 use native.Mathlib.Nat.{add-zero, add-suc, suc-add}
 use native.Mathlib.Omega.{arith}
-use mathlib.Core.List.{List, [], _∷_, _++_}
-use lib.ListN.{length, set}
-use lib.Seq.{sets}
+use mathlib.Core.List.{List, [], _∷_, _++_, append-nil}
+use lib.ListN.{length, set, drop, drop-of-length-le}
+use lib.Seq.{sets, sets-eq}
 use Rattle.endian.specs.LittleEndian.{bytes4, bytes8}
 
 -- a run after another is one run
@@ -37,3 +37,9 @@ length-bytes4 v = refl
 pub then8 : (l m n : List ℕ) (at v : ℕ) → m ≡ sets l at (bytes4 (v % 4294967296)) → n ≡ sets m (at + 4) (bytes4 (v / 4294967296)) → n ≡ sets l at (bytes8 v)
 unfolding bytes8
 then8 l m n at v p q = then l m n at 4 (bytes4 (v % 4294967296)) (bytes4 (v / 4294967296)) (length-bytes4 _) p q
+
+-- bytes over the whole of a buffer
+pub over-all : (l bs : List ℕ) → length l ≡ length bs → sets l 0 bs ≡ bs
+over-all l bs e =
+    let rest : drop (0 + length bs) l ≡ [] = drop-of-length-le l {i = 0 + length bs} (omega arith) in
+    sets-eq bs l 0 (omega arith) ∙ rw rest (append-nil bs)

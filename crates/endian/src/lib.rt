@@ -34,7 +34,7 @@ pub fn read_i32(bytes: &[u8], at: usize) -> i32
     integer::i32_of_bits(read_u32(bytes, at))
 }
 
-fn read_u64(bytes: &[u8], at: usize) -> u64
+pub fn read_u64(bytes: &[u8], at: usize) -> u64
     requires { ⌜ at + 8 ≤ length (now bytes) ⌝ }
     ensures { λ r. ⌜ r ≡ le8 (now (bytes .entry)) at ⌝ }
 {

@@ -5,8 +5,8 @@ use denote.Ref.{now}
 use Rattle.elements_file.specs.Contract.{InBounds}
 use Rattle.elements_file.proofs.Consistency.{parsed-in-bounds}
 use Rattle.endian.specs.LittleEndian.{bytes4, bytes8}
+use Rattle.endian.proofs.Stores.{over-all}
 use Rattle.buffers.specs.Answers.{words, elementsBytes}
-use Rattle.buffers.proofs.Stores.{over-all}
 use Rattle.yurdelmiz.specs.Calls.{elementsOutcome, elementsCall}
 use Rattle.yurdelmiz.proofs.Endings.{bad-buffer, ends-refused, ends-given}
 use borrow.Author.Needs.{needs}

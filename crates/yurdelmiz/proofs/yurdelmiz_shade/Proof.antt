@@ -1,6 +1,7 @@
 -- `yurdelmiz::yurdelmiz_shade` meets its contract. Assumes nothing.
 use mathlib.Core.Path.{_≡_, sym, ap, _∙_}
 use borrow.Author.Tests.{eq-eqb, ne-eqb}
+use Rattle.endian.proofs.Stores.{over-all}
 use Rattle.yurdelmiz.specs.Calls.{shadeOutcome, shadeCall}
 use Rattle.yurdelmiz.proofs.Endings.{bad-buffer, ends-refused, ends-given}
 use denote.Ref.{now}
@@ -8,7 +9,6 @@ use Prim.Native.Nat.{ℕ}
 use mathlib.Core.List.{[], _∷_}
 use mir.Facts.{toZ-ofZ}
 use Rattle.eclipse.specs.Shade.{shadeAnswer}
-use Rattle.buffers.proofs.Stores.{over-all}
 use borrow.Author.Needs.{needs}
 use Rattle.yurdelmiz.proofs.yurdelmiz_shade.Statement.{statement}
 use Rattle.yurdelmiz.proofs.yurdelmiz_shade.Tie as tie

@@ -2,7 +2,7 @@
 use mathlib.Core.Path.{_∙_}
 use denote.Ref.{now}
 use Rattle.endian.specs.LittleEndian.{bytes4}
-use Rattle.buffers.proofs.Stores.{over-all}
+use Rattle.endian.proofs.Stores.{over-all}
 use borrow.Author.Needs.{needs}
 use Rattle.buffers.proofs.answers.write_figure.Statement.{statement}
 use Rattle.buffers.proofs.answers.write_figure.Tie as tie

@@ -5,11 +5,10 @@ use native.Mathlib.Omega.{arith}
 use denote.Ref.{now}
 use lib.Seq.{sets}
 use Rattle.endian.specs.LittleEndian.{bytes4}
-use Rattle.endian.proofs.Stores.{then}
+use Rattle.endian.proofs.Stores.{then, over-all}
 use Rattle.label_file.specs.Trailer.{trailerSize}
 use Rattle.label_file.proofs.Trailers.{size-bounds}
 use Rattle.buffers.specs.Answers.{words, countsBytes, readBytes}
-use Rattle.buffers.proofs.Stores.{over-all}
 use borrow.Author.Needs.{needs}
 use Rattle.buffers.proofs.answers.write_reading.Statement.{statement}
 use Rattle.buffers.proofs.answers.write_reading.Tie as tie
