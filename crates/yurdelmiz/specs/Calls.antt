@@ -37,6 +37,9 @@ use Rattle.labelling.specs.Adding.{adding, bufferAfter}
 use Rattle.labelling.specs.Day.{labelling, outputAfter}
 use Rattle.labelling.specs.declared.Labelling.{Labelling}
 use Rattle.labelling.specs.declared.Labelling.the-variants as labelling
+use Rattle.scale.specs.Step.{scaling}
+use Rattle.scale.specs.declared.Scaling.{Scaling}
+use Rattle.scale.specs.declared.Scaling.the-variants as scaling
 use Rattle.salvage.specs.Salvage.{salvaging, salvagedOutput}
 use Rattle.salvage.specs.declared.Salvage.{Salvage}
 use Rattle.salvage.specs.declared.Salvage.the-variants as salvage
@@ -51,6 +54,7 @@ use Rattle.buffers.specs.Buffers.{elementsOf}
 use Rattle.buffers.specs.Faults.{faultNumber, faultPlace}
 use Rattle.buffers.specs.Status.{statusAt}
 use Rattle.day_buffer.specs.State.{dayOf, dayBytes}
+use Rattle.figures_buffer.specs.FigureBytes.{figuresIn, figuresBytes}
 use Rattle.yurdelmiz.specs.Call.{Call, Outcome, refused, given, callOf, BufferCall, BufferOutcome, rejected, written, bufferCallOf}
 
 -- ---- yurdelmiz_kepler
@@ -138,6 +142,14 @@ darkTestOutcome (tail.Held labels) = given (bytes4 labels)
 
 unfoldable pub darkTestCall : List ℕ → ℕ → List ℕ → Call
 darkTestCall bytes size buffer = callOf (eqb (length buffer) 4) (darkTestOutcome (tailReading bytes size)) buffer
+
+-- ---- yurdelmiz_scale
+abbrev pub scaleOutcome : Scaling → Outcome
+scaleOutcome (scaling.Refused refusal place) = refused (statusAt (numberOf refusal) place)
+scaleOutcome (scaling.Added f) = given (figuresBytes f)
+
+unfoldable pub scaleCall : List ℕ → List ℕ → ℕ → Call
+scaleCall figures file size = callOf (eqb (length figures) 48) (scaleOutcome (scaling (figuresIn figures) file size)) figures
 
 -- ---- yurdelmiz_salvage
 abbrev pub salvageOutcome : Salvage → List ℕ → BufferOutcome

@@ -2,7 +2,7 @@
 ghost use mathlib.Core.Path.{_≡_};
 ghost use Rattle.trig.specs.Contract.{CosineAt};
 ghost use Rattle.trig.specs.ExactSine.{SineAt};
-ghost use Rattle.yurdelmiz.specs.Calls.{keplerCall, sunCall, positionCall, shadeCall, elementsCall, labelCall, addCall, readCall, darkTestCall, salvageCall, openCall, packetCall, closeCall};
+ghost use Rattle.yurdelmiz.specs.Calls.{keplerCall, sunCall, positionCall, shadeCall, elementsCall, labelCall, addCall, readCall, darkTestCall, scaleCall, salvageCall, openCall, packetCall, closeCall};
 use eclipse::ShadeAnswer;
 use elements_file::Parsed;
 use kepler::Solution;
@@ -13,6 +13,7 @@ use orbit::Placement;
 use packets::Outcome;
 use position::Position;
 use salvage::Salvage;
+use scale::Scaling;
 use sun::Direction;
 use sun::SunAnswer;
 
@@ -217,6 +218,24 @@ pub extern "C" fn yurdelmiz_dark_test(tail: &[u8], size: u64, answer: &mut [u8])
         }
         TailReading::Held(labels) => {
             buffers::write_figure(answer, labels);
+            0
+        }
+    }
+}
+
+#[no_mangle]
+pub extern "C" fn yurdelmiz_scale(figures: &mut [u8], file: &[u8], size: usize) -> u64
+    ensures { λ r. ⌜ record { status = r; answer = now (figures .exit) } ≡ scaleCall (now (figures .entry)) (now (file .entry)) size ⌝ }
+{
+    if figures.len() != 48 {
+        return BAD_BUFFER as u64;
+    }
+    let before = figures_buffer::read_figures(figures);
+    let scaled = scale::add_file(before, file, size);
+    match scaled {
+        Scaling::Refused(refusal, place) => buffers::status_at(refusal.number(), place),
+        Scaling::Added(next) => {
+            figures_buffer::write_figures(figures, next);
             0
         }
     }
