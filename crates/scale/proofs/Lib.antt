@@ -3,3 +3,4 @@ pub mod Bounds
 pub mod FigureLaws
 pub mod AllowedFigures
 pub mod FileLabels
+pub mod ManyFiles
