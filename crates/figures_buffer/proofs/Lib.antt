@@ -1,1 +1,2 @@
 pub mod StoredFigures
+pub mod FiguresBack
