@@ -2,3 +2,4 @@ pub mod Call
 pub mod Calls
 pub mod TailOfFile
 pub mod CutDay
+pub mod ScaledFiles
