@@ -1,10 +1,10 @@
 // Prints the worked example of source document 001, for Oscar-10 on 1985 August 12 at 01:45, beside
 // the articles' figures.
 use eclipse::ShadeAnswer;
+use elements::Elements;
 use libc::STDOUT_FILENO;
 use orbit::Placement;
 use orbit::State;
-use orbit::elements::Elements;
 use shade::Shade;
 use sun::Direction;
 use sun::Sun;

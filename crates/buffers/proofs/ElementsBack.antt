@@ -9,7 +9,7 @@ use mir.Val.{SFits, toZ}
 use mir.Facts.{sfits-toZ}
 use Rattle.endian.specs.LittleEndian.{le4, le8, bytes4, bytes8}
 use Rattle.endian.proofs.RoundTrip.{back4, back-i32, back-i64}
-use Rattle.orbit.specs.declared.elements.Elements.{Elements}
+use Rattle.elements.specs.declared.Elements.{Elements}
 use Rattle.elements_file.specs.Contract.{Held}
 use Rattle.buffers.specs.Answers.{words, elementsBytes}
 use Rattle.buffers.specs.Buffers.{elementsOf}

@@ -10,7 +10,7 @@ use Rattle.label_file.specs.Trailer.{trailerSize}
 use Rattle.label_file.specs.declared.Counts.{Counts}
 use Rattle.label_file.specs.declared.Form.{Form}
 use Rattle.orbit.specs.declared.State.{State}
-use Rattle.orbit.specs.declared.elements.Elements.{Elements}
+use Rattle.elements.specs.declared.Elements.{Elements}
 use Rattle.position.specs.declared.Position.{Position}
 use Rattle.sun.specs.declared.Sun.{Sun}
 

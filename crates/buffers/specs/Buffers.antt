@@ -4,7 +4,7 @@ use mathlib.Core.List.{List}
 use mir.Syntax.{w32, w64}
 use mir.Val.{toZ}
 use Rattle.endian.specs.LittleEndian.{le4, le8}
-use Rattle.orbit.specs.declared.elements.Elements.{Elements}
+use Rattle.elements.specs.declared.Elements.{Elements}
 
 -- elements, the first 52 bytes
 unfoldable pub elementsOf : List ℕ → Elements

@@ -11,11 +11,11 @@ ghost use Rattle.endian.specs.LittleEndian.{bytes4};
 ghost use Rattle.integer.specs.Bound.{Within};
 ghost use Rattle.sun.specs.Contract.{WithinOne};
 ghost use Rattle.buffers.specs.Answers.{words, anomalyBytes, sunBytes, positionBytes, stateBytes, elementsBytes, countsBytes, readBytes, addBytes, salvageBytes};
+use elements::Elements;
 use kepler::Anomaly;
 use label_file::Counts;
 use label_file::Form;
 use orbit::State;
-use orbit::elements::Elements;
 use position::Position;
 use sun::Sun;
 

@@ -11,7 +11,7 @@ use lib.IntN.{ℤ}
 use lib.ListN.{length}
 use mir.Syntax.{w32, w64}
 use mir.Val.{SFits}
-use Rattle.orbit.specs.declared.elements.Elements.{Elements}
+use Rattle.elements.specs.declared.Elements.{Elements}
 use Rattle.elements_file.specs.Names.{nameByte}
 use Rattle.elements_file.proofs.Bytes.{name-inside}
 use Rattle.elements_file.proofs.Choices.{choice}

@@ -7,7 +7,7 @@ use native.Mathlib.Nat.{le-trans, le-refl, add-zero}
 use native.Mathlib.Omega.{arith}
 use borrow.Author.Tests.{ne-eqb, le-leb, le-ltb}
 use lib.ListN.{length}
-use Rattle.orbit.specs.declared.elements.Elements.{Elements}
+use Rattle.elements.specs.declared.Elements.{Elements}
 use Rattle.elements_file.specs.Names.{names, nameByte}
 use Rattle.elements_file.specs.Numbers.{isSigned, largest, unwritten, minus, takesMinus}
 use Rattle.elements_file.specs.Lines.{named, counted, valued, begun, within}

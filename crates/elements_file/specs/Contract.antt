@@ -2,7 +2,7 @@
 use Prim.Native.Nat.{ℕ, _+_, _^_, _≤_, _<_}
 use mir.Syntax.{w32, w64}
 use mir.Val.{SFits}
-use Rattle.orbit.specs.declared.elements.Elements.{Elements}
+use Rattle.elements.specs.declared.Elements.{Elements}
 use Rattle.elements_file.specs.Numbers.{largest}
 use Rattle.elements_file.specs.declared.Parsed.{Parsed}
 use Rattle.elements_file.specs.declared.Parsed.the-variants.{Whole, Malformed}

@@ -1,6 +1,6 @@
 // The elements with one of them read.
 use crate::number::Number;
-use orbit::elements::Elements;
+use elements::Elements;
 ghost use mathlib.Core.Path.{_≡_};
 ghost use mathlib.Core.Bool.{true, cond};
 ghost use Prim.Native.Nat.{_<_, _≤_, _^_};

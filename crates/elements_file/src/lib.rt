@@ -4,9 +4,9 @@ mod line;
 mod name;
 mod number;
 
+use elements::Elements;
 use line::Place;
 use number::Number;
-use orbit::elements::Elements;
 ghost use mathlib.Core.Path.{_≡_};
 ghost use Prim.Native.Nat.{_≤_};
 ghost use Rattle.elements_file.specs.Contract.{Consistent, Due};

@@ -12,8 +12,8 @@ use Rattle.integer.proofs.Division.{mod-below, parts-floor, floor-unique, withi
 use Rattle.integer.proofs.Parts.{up, dn, parts-add, parts-scale}
 use Rattle.integer.proofs.Ring.{ring}
 use Rattle.integer.proofs.Sizes.{natAbs-mul}
-use Rattle.orbit.specs.declared.elements.Elements.{Elements}
-use Rattle.orbit.specs.Contract.{Near}
+use Rattle.elements.specs.declared.Elements.{Elements}
+use Rattle.elements.specs.Contract.{Near}
 use Rattle.orbit.specs.Turns.{elapsedOf, wholeTurns, partTurn, linearTerm, quadraticTerm, advance, drift}
 
 -- ---- the linear term

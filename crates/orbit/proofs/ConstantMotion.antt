@@ -11,16 +11,16 @@ use Rattle.integer.specs.Division.{modZ}
 use Rattle.integer.proofs.Division.{floor-unique}
 use Rattle.integer.proofs.Parts.{parts-add}
 use Rattle.refusal.specs.declared.Refusal.the-variants.{MeanMotionDerivative}
-use Rattle.orbit.specs.declared.elements.Elements.{Elements}
+use Rattle.elements.specs.declared.Elements.{Elements}
 use Rattle.orbit.specs.ConstantMotion.{anomalySum, constantAnomaly, constantRevolution, constantChecked, constantCheckedAt, constantState, ConstantMotion}
-use Rattle.orbit.specs.declared.elements.Verdict.{Verdict}
-use Rattle.orbit.specs.declared.elements.Verdict.the-variants.{Passed, Refused}
-use Rattle.orbit.specs.Elements.{refuseIf, derivativeBeyond, checkedTo7, checked}
+use Rattle.elements.specs.declared.Verdict.{Verdict}
+use Rattle.elements.specs.declared.Verdict.the-variants.{Passed, Refused}
+use Rattle.elements.specs.Elements.{refuseIf, derivativeBeyond, checkedTo7, checked}
 use Rattle.orbit.specs.Placement.{stateWith, stateOf, placement}
 use Rattle.orbit.specs.Revolution.{gain, revolution}
-use Rattle.orbit.specs.Time.{timesRefused, timeRefused, checkedAt}
+use Rattle.elements.specs.Time.{timesRefused, timeRefused, checkedAt}
 use Rattle.orbit.specs.Turns.{elapsedOf, wholeTurns, linearTerm, quadraticTerm, advance, meanAnomaly}
-use Rattle.orbit.proofs.Accepted.{least-motion}
+use Rattle.elements.proofs.Accepted.{least-motion}
 use Rattle.orbit.proofs.AdvanceAndDrift.{part-below, linear-parts}
 
 -- ---- the sum of two cases wraps

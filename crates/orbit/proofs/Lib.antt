@@ -1,4 +1,3 @@
-pub mod Accepted
 pub mod AdvanceAndDrift
 pub mod Revolution
 pub mod Distances

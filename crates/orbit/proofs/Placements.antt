@@ -17,16 +17,16 @@ use Rattle.position.specs.declared.Position.{Position}
 use Rattle.position.proofs.Bounds.{celestial-box}
 use Rattle.orbit.specs.declared.State.{State}
 use Rattle.orbit.specs.declared.Placement.the-variants.{Placed, Refused}
-use Rattle.orbit.specs.declared.elements.Elements.{Elements}
-use Rattle.orbit.specs.declared.elements.Verdict.{Verdict}
-use Rattle.orbit.specs.declared.elements.Verdict.the-variants as verdict
+use Rattle.elements.specs.declared.Elements.{Elements}
+use Rattle.elements.specs.declared.Verdict.{Verdict}
+use Rattle.elements.specs.declared.Verdict.the-variants as verdict
 use Rattle.orbit.specs.Contract.{StateOwes, StateAt}
 use Rattle.orbit.specs.Ellipse.{radius}
 use Rattle.orbit.specs.Placement.{inPlane, celestialAt, nodeAt, anomalyOf, stateOf, placementOf, placement}
 use Rattle.orbit.specs.Revolution.{revolution}
-use Rattle.orbit.specs.Time.{checkedAt}
+use Rattle.elements.specs.Time.{checkedAt}
 use Rattle.orbit.specs.Turns.{advance, meanAnomaly}
-use Rattle.orbit.proofs.Accepted.{AcceptedAt, accepted-at}
+use Rattle.elements.proofs.Accepted.{AcceptedAt, accepted-at}
 use Rattle.orbit.proofs.Distances.{minor-le, plane-box, radius-between}
 use Rattle.orbit.proofs.Revolution.{never-falls}
 

@@ -11,11 +11,11 @@ use Rattle.integer.specs.Division.{floorZ, modZ}
 use Rattle.integer.proofs.Bounds.{within-pos, within-add, within-more}
 use Rattle.integer.proofs.Division.{parts-floor, floor-mono, floor-later, floor-unique}
 use Rattle.integer.proofs.Parts.{up, dn, signed, parts-add, parts-sub, parts-within, within-parts, parts-le, parts-later, parts-later-square}
-use Rattle.orbit.specs.declared.elements.Elements.{Elements}
+use Rattle.elements.specs.declared.Elements.{Elements}
 use Rattle.orbit.specs.Revolution.{latitudeOf, gain, nodePassages, revolution, NeverFalls}
 use Rattle.orbit.specs.Placement.{perigeeAt}
 use Rattle.orbit.specs.Turns.{elapsedOf, linearTerm, quadraticTerm, advance, meanAnomaly, drift, drifted}
-use Rattle.orbit.proofs.Accepted.{AcceptedAt, accepted-at}
+use Rattle.elements.proofs.Accepted.{AcceptedAt, accepted-at}
 use Rattle.orbit.proofs.AdvanceAndDrift.{linear-floor, product-within, advance-within, drift-within}
 
 -- ---- a turn more is a passage more

@@ -7,12 +7,12 @@ use lib.IntN.{ℤ, pos, _+ℤ_}
 use Rattle.refusal.specs.declared.Refusal.the-variants.{Time}
 use Rattle.time.specs.Range.{inRange}
 use Rattle.orbit.specs.declared.State.{State}
-use Rattle.orbit.specs.declared.elements.Elements.{Elements}
-use Rattle.orbit.specs.declared.elements.Verdict.{Verdict}
-use Rattle.orbit.specs.Elements.{refuseIf, checkedTo7, checked}
+use Rattle.elements.specs.declared.Elements.{Elements}
+use Rattle.elements.specs.declared.Verdict.{Verdict}
+use Rattle.elements.specs.Elements.{refuseIf, checkedTo7, checked}
 use Rattle.orbit.specs.Placement.{stateWith, stateOf, placementOf, placement}
 use Rattle.orbit.specs.Revolution.{latitudeOf, nodePassages, revolution}
-use Rattle.orbit.specs.Time.{timesRefused, timeRefused}
+use Rattle.elements.specs.Time.{timesRefused, timeRefused}
 use Rattle.orbit.specs.Turns.{elapsedOf, partTurn, linearTerm, drift, meanAnomaly}
 
 -- M0 plus the part turn

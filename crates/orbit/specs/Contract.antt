@@ -12,25 +12,19 @@ use Rattle.orbit.specs.declared.Plane.{Plane}
 use Rattle.orbit.specs.declared.State.{State}
 use Rattle.orbit.specs.declared.Placement.{Placement}
 use Rattle.orbit.specs.declared.Placement.the-variants.{Placed, Refused}
-use Rattle.orbit.specs.declared.elements.Elements.{Elements}
-use Rattle.orbit.specs.declared.elements.Verdict.the-variants as verdict
+use Rattle.elements.specs.declared.Elements.{Elements}
+use Rattle.elements.specs.declared.Verdict.the-variants as verdict
 use Rattle.orbit.specs.declared.turns.Phase.{Phase}
 use Rattle.orbit.specs.Ellipse.{minorAxis, Between}
 use Rattle.orbit.specs.Placement.{planeOf, perigeeAt, stateOf, placement}
 use Rattle.orbit.specs.Revolution.{revolution}
-use Rattle.orbit.specs.Time.{checkedAt}
+use Rattle.elements.specs.Time.{checkedAt}
 use Rattle.orbit.specs.Turns.{elapsedOf, meanAnomaly}
 
 -- ---- turns
 pub record Elapsed (el : Elements) (t r : ℤ) : Type 0 where
   pub is : r ≡ elapsedOf el t
   pub small : Within 31_622_400 r
-
--- half a derivative d of the mean motion and an elapsed time Δ that are accepted together: within a year, and within 30 days unless d is 0
-pub record Near (d Δ : ℤ) : Type 0 where
-  pub derivative : Within 1_000_000 d
-  pub elapsed : Within 31_622_400 Δ
-  pub near : natAbs d * natAbs Δ ≤ natAbs d * 2_592_000
 
 pub record PhaseAt (el : Elements) (t : ℤ) (r : Phase) : Type 0 where
   pub anomaly-is : r .«mean_anomaly» ≡ meanAnomaly el t

@@ -1,5 +1,3 @@
-pub mod Elements
-pub mod Time
 pub mod Turns
 pub mod Revolution
 pub mod Ellipse

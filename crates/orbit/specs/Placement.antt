@@ -9,12 +9,12 @@ use Rattle.position.specs.declared.Position.{Position}
 use Rattle.orbit.specs.declared.State.{State}
 use Rattle.orbit.specs.declared.Placement.{Placement}
 use Rattle.orbit.specs.declared.Placement.the-variants.{Placed, Refused}
-use Rattle.orbit.specs.declared.elements.Elements.{Elements}
-use Rattle.orbit.specs.declared.elements.Verdict.{Verdict}
-use Rattle.orbit.specs.declared.elements.Verdict.the-variants as verdict
+use Rattle.elements.specs.declared.Elements.{Elements}
+use Rattle.elements.specs.declared.Verdict.{Verdict}
+use Rattle.elements.specs.declared.Verdict.the-variants as verdict
 use Rattle.orbit.specs.Ellipse.{minorAxis, inPlaneX, inPlaneY, radius}
 use Rattle.orbit.specs.Revolution.{revolution}
-use Rattle.orbit.specs.Time.{checkedAt}
+use Rattle.elements.specs.Time.{checkedAt}
 use Rattle.orbit.specs.Turns.{elapsedOf, meanAnomaly, drifted}
 
 -- (X, Y, 0) from a, e, b, C(E) and S(E)

@@ -5,9 +5,9 @@ use Prim.Native.Nat.{ℕ, _+_, _/_, _^_}
 use lib.IntN.{ℤ, pos, _+ℤ_, _-ℤ_}
 use lib.Signed.{_≤ℤ_}
 use Rattle.integer.specs.Division.{floorZ}
-use Rattle.orbit.specs.declared.elements.Elements.{Elements}
-use Rattle.orbit.specs.declared.elements.Verdict.the-variants.{Passed}
-use Rattle.orbit.specs.Time.{checkedAt}
+use Rattle.elements.specs.declared.Elements.{Elements}
+use Rattle.elements.specs.declared.Verdict.the-variants.{Passed}
+use Rattle.elements.specs.Time.{checkedAt}
 use Rattle.orbit.specs.Turns.{elapsedOf, advance, drift}
 
 -- the mean argument of latitude at the epoch, before wrapping: M0 plus the argument of perigee

@@ -1,5 +1,4 @@
 // From orbital elements to position: document 01, "From elements to position".
-pub mod elements;
 mod ellipse;
 mod turns;
 
@@ -12,9 +11,9 @@ use trig::Sines;
 ghost use mathlib.Core.Path.{_≡_};
 ghost use Prim.Native.Nat.{_≤_};
 ghost use Rattle.trig.specs.Contract.{SinesAt};
-ghost use Rattle.orbit.specs.declared.elements.Verdict.the-variants.{Passed};
+ghost use Rattle.elements.specs.declared.Verdict.the-variants.{Passed};
 ghost use Rattle.orbit.specs.Placement.{nodeAt};
-ghost use Rattle.orbit.specs.Time.{checkedAt};
+ghost use Rattle.elements.specs.Time.{checkedAt};
 ghost use Rattle.orbit.specs.Contract.{PlaneFor, Shape, InPlane, StateAt, PlacedAt};
 
 // Where a satellite is at a time: the revolution, the mean anomaly, the eccentric anomaly with its

@@ -3,7 +3,7 @@
 // time that passed the checks. Within a year's time of the epoch A has less than 9,000 turns and a
 // drift less than 1,000, so that every sum of theirs is below 2^46; rate·Δ·2^18 is below 2^61. Where d is
 // not 0 the time is within 30 days, and d·Δ² below 2^63. All of it fits an i64.
-use crate::elements::Elements;
+use elements::Elements;
 use integer::FloorQuotient;
 use trig::Sines;
 use trig::TURN;
@@ -14,11 +14,12 @@ ghost use Rattle.integer.specs.Bound.{Within};
 ghost use Rattle.integer.specs.Contract.{FloorDivided};
 ghost use Rattle.integer.specs.Division.{modZ};
 ghost use Rattle.trig.specs.Contract.{SinesAt};
-ghost use Rattle.orbit.specs.declared.elements.Verdict.the-variants.{Passed};
-ghost use Rattle.orbit.specs.Time.{checkedAt};
+ghost use Rattle.elements.specs.declared.Verdict.the-variants.{Passed};
+ghost use Rattle.elements.specs.Time.{checkedAt};
 ghost use Rattle.orbit.specs.Turns.{elapsedOf, linearTerm, quadraticTerm, drift, drifted};
 ghost use Rattle.orbit.specs.Revolution.{nodePassages};
-ghost use Rattle.orbit.specs.Contract.{Elapsed, Near, PhaseAt};
+ghost use Rattle.elements.specs.Contract.{Near};
+ghost use Rattle.orbit.specs.Contract.{Elapsed, PhaseAt};
 
 // The phase of an orbit: the mean anomaly, the argument of perigee as drifted, and the number of the
 // revolution.

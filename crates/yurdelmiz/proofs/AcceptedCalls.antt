@@ -20,7 +20,7 @@ use Rattle.orbit.specs.Placement.{placement}
 use Rattle.orbit.specs.declared.State.{State}
 use Rattle.orbit.specs.declared.Placement.{Placement}
 use Rattle.orbit.specs.declared.Placement.the-variants as placement
-use Rattle.orbit.specs.declared.elements.Elements.{Elements}
+use Rattle.elements.specs.declared.Elements.{Elements}
 use Rattle.orbit.proofs.Placements.{placed-state}
 use Rattle.elements_file.specs.Contract.{InBounds}
 use Rattle.elements_file.specs.Reading.{parsed}

@@ -3,7 +3,7 @@ use mathlib.Core.Path.{_≡_, sym, ap, _∙_}
 use Prim.Native.Nat.{ℕ}
 use mathlib.Core.List.{List}
 use Rattle.refusal.specs.declared.Refusal.{Refusal}
-use Rattle.orbit.specs.declared.elements.Elements.{Elements}
+use Rattle.elements.specs.declared.Elements.{Elements}
 use Rattle.labelling.specs.Adding.{adding, bufferAfter}
 use Rattle.labelling.specs.Contract.{AddedTo}
 use Rattle.labelling.specs.declared.Labelling.{Labelling}

@@ -10,7 +10,7 @@ use lib.Seq.{take-length}
 use borrow.Author.Tests.{eq-eqb, eqb-true}
 use Rattle.integer.proofs.Tests.{and-true}
 use Rattle.refusal.proofs.Numbers.{never-0}
-use Rattle.orbit.specs.declared.elements.Elements.{Elements}
+use Rattle.elements.specs.declared.Elements.{Elements}
 use Rattle.elements_file.specs.Contract.{Held}
 use Rattle.label.specs.Layout.{labelSize}
 use Rattle.label_file.specs.Reading.{fileReading}

@@ -3,7 +3,7 @@ use mathlib.Core.Path.{_≡_, sym, ap, _∙_}
 use Prim.Native.Nat.{ℕ}
 use mathlib.Core.List.{List}
 use Rattle.refusal.specs.declared.Refusal.{Refusal}
-use Rattle.orbit.specs.declared.elements.Elements.{Elements}
+use Rattle.elements.specs.declared.Elements.{Elements}
 use Rattle.label_file.specs.File.{fileOf}
 use Rattle.label_file.specs.declared.Form.the-variants.{Bytes24}
 use Rattle.labelling.specs.Contract.{LabelledDay}

@@ -12,10 +12,10 @@ use Rattle.position.specs.declared.Position.{Position}
 use Rattle.time.specs.Range.{inRange}
 use Rattle.orbit.specs.declared.State.{State}
 use Rattle.orbit.specs.declared.Placement.the-variants.{Placed}
-use Rattle.orbit.specs.declared.elements.Elements.{Elements}
+use Rattle.elements.specs.declared.Elements.{Elements}
 use Rattle.orbit.specs.Ellipse.{Between}
 use Rattle.orbit.specs.Placement.{placement}
-use Rattle.orbit.proofs.Accepted.{accepted-at}
+use Rattle.elements.proofs.Accepted.{accepted-at}
 use Rattle.orbit.proofs.Placements.{placed-passed}
 
 below : (a e : ℕ) (r : ℤ) → a ≤ 100_000_000 → e ≤ 9_000_000 → Between a e r → natAbs r < 2 ^ 32

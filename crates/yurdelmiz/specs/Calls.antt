@@ -16,7 +16,7 @@ use Rattle.sun.specs.declared.SunAnswer.the-variants as sun
 use Rattle.position.specs.Turn.{earthFixedOf}
 use Rattle.position.specs.declared.Position.{Position}
 use Rattle.orbit.specs.Placement.{placement}
-use Rattle.orbit.specs.declared.elements.Elements.{Elements}
+use Rattle.elements.specs.declared.Elements.{Elements}
 use Rattle.orbit.specs.declared.Placement.{Placement}
 use Rattle.orbit.specs.declared.Placement.the-variants as placement
 use Rattle.elements_file.specs.Reading.{parsed}

@@ -4,7 +4,7 @@ use mir.Syntax.{w32}
 use mir.Val.{SFits}
 use mir.Facts.{toZ-ofZ}
 use Rattle.orbit.specs.Placement.{nodeAt}
-use Rattle.orbit.proofs.Accepted.{accepted-at}
+use Rattle.elements.proofs.Accepted.{accepted-at}
 use Rattle.orbit.proofs.node_at.Statement.{statement}
 use Rattle.orbit.proofs.node_at.Tie as tie
 

@@ -3,9 +3,9 @@ use borrow.Author.Needs.{needs}
 use mathlib.Core.Path.{_≡_, _∙_, ap, sym}
 use mir.Facts.{toZ-ofZ}
 use Rattle.orbit.specs.declared.Placement.the-variants.{Placed}
-use Rattle.orbit.specs.declared.elements.Verdict.the-variants.{Passed}
-use Rattle.orbit.specs.Time.{checkedAt}
-use Rattle.orbit.proofs.Accepted.{accepted-at}
+use Rattle.elements.specs.declared.Verdict.the-variants.{Passed}
+use Rattle.elements.specs.Time.{checkedAt}
+use Rattle.elements.proofs.Accepted.{accepted-at}
 use Rattle.orbit.proofs.Placements.{placement-refused, placement-placed}
 use Rattle.orbit.proofs.position.Statement.{statement}
 use Rattle.orbit.proofs.position.Tie as tie

@@ -14,7 +14,7 @@ use Rattle.kepler.specs.declared.Anomaly.{Anomaly}
 use Rattle.orbit.specs.Contract.{PhaseAt}
 use Rattle.orbit.specs.Placement.{inPlane, perigeeAt, celestialAt, anomalyOf}
 use Rattle.orbit.specs.Turns.{meanAnomaly}
-use Rattle.orbit.proofs.Accepted.{Accepted, accepted-at}
+use Rattle.elements.proofs.Accepted.{Accepted, accepted-at}
 use Rattle.orbit.proofs.Distances.{minor-le}
 use Rattle.orbit.proofs.Placements.{anomaly-is, state-is, state-at}
 use Rattle.orbit.proofs.state_at.Statement.{statement}

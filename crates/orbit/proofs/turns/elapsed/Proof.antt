@@ -5,7 +5,7 @@ use mir.Val.{SFits}
 use mir.Facts.{toZ-ofZ}
 use borrow.Author.Needs.{needs}
 use Rattle.integer.proofs.Bounds.{sfits-within}
-use Rattle.orbit.proofs.Accepted.{accepted-at}
+use Rattle.elements.proofs.Accepted.{accepted-at}
 use Rattle.orbit.proofs.turns.elapsed.Statement.{statement}
 use Rattle.orbit.proofs.turns.elapsed.Tie as tie
 

@@ -14,7 +14,7 @@ use Rattle.integer.proofs.TwosComplement.{read-back}
 use Rattle.orbit.specs.Placement.{perigeeAt}
 use Rattle.orbit.specs.Revolution.{latitudeOf, gain, nodePassages, revolution}
 use Rattle.orbit.specs.Turns.{elapsedOf, linearTerm, quadraticTerm, advance, meanAnomaly, drift, drifted}
-use Rattle.orbit.proofs.Accepted.{AcceptedAt, accepted-at}
+use Rattle.elements.proofs.Accepted.{AcceptedAt, accepted-at}
 use Rattle.orbit.proofs.AdvanceAndDrift.{advance-within}
 use Rattle.orbit.proofs.turns.phase_at.Statement.{statement}
 use Rattle.orbit.proofs.turns.phase_at.Tie as tie
