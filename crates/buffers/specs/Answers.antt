@@ -6,9 +6,9 @@ use mir.Syntax.{w32, w64}
 use mir.Val.{ofZ}
 use Rattle.endian.specs.LittleEndian.{bytes4, bytes8}
 use Rattle.kepler.specs.declared.Anomaly.{Anomaly}
-use Rattle.label_file.specs.Trailer.{trailerSize}
-use Rattle.label_file.specs.declared.Counts.{Counts}
-use Rattle.label_file.specs.declared.Form.{Form}
+use Rattle.trailer.specs.Trailer.{trailerSize}
+use Rattle.trailer.specs.declared.Counts.{Counts}
+use Rattle.trailer.specs.declared.Form.{Form}
 use Rattle.orbit.specs.declared.State.{State}
 use Rattle.elements.specs.declared.Elements.{Elements}
 use Rattle.position.specs.declared.Position.{Position}

@@ -13,11 +13,11 @@ ghost use Rattle.sun.specs.Contract.{WithinOne};
 ghost use Rattle.buffers.specs.Answers.{words, anomalyBytes, sunBytes, positionBytes, stateBytes, elementsBytes, countsBytes, readBytes, addBytes, salvageBytes};
 use elements::Elements;
 use kepler::Anomaly;
-use label_file::Counts;
-use label_file::Form;
 use orbit::State;
 use position::Position;
 use sun::Sun;
+use trailer::Counts;
+use trailer::Form;
 
 // Numbers of four bytes one after another.
 fn write_words(answer: &mut [u8], at: usize, numbers: &[u32])

@@ -8,7 +8,7 @@ use lib.Dec.{eqb}
 use Rattle.endian.specs.LittleEndian.{bytes4, bytes8}
 use Rattle.endian.proofs.RoundTrip.{back4}
 use Rattle.elements_file.specs.Contract.{Held}
-use Rattle.label_file.specs.Contract.{Bounded}
+use Rattle.trailer.specs.Contract.{Bounded}
 use Rattle.packets.specs.declared.Day.{Day}
 use Rattle.buffers.specs.Answers.{words, elementsBytes, countsBytes}
 use Rattle.buffers.proofs.ElementsBack.{elements-back}

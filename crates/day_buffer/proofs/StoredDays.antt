@@ -4,7 +4,7 @@ use Prim.Native.Nat.{ℕ, _+_, _-_, _≤_}
 use mathlib.Core.List.{List, [], _++_, append-nil}
 use lib.ListN.{length, take, drop, replicate, length-drop}
 use lib.Seq.{paste, sets, sets-eq, take-length}
-use Rattle.label_file.proofs.Readings.{rest-part}
+use Rattle.endian.proofs.Slices.{rest-part}
 
 -- the bytes held, copied over as many zeros
 pub held-copied : (buffer part : List ℕ) → length buffer ≡ 89 → part ≡ take (length buffer - 74) (drop 74 buffer) → take (length part) part ++ drop (length part) (replicate 15 0) ≡ drop 74 buffer

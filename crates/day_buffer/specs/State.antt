@@ -5,7 +5,7 @@ use mathlib.Core.List.{List, [], _∷_, _++_}
 use lib.Dec.{eqb}
 use lib.ListN.{getD, drop}
 use Rattle.endian.specs.LittleEndian.{le4}
-use Rattle.label_file.specs.declared.Counts.{Counts}
+use Rattle.trailer.specs.declared.Counts.{Counts}
 use Rattle.packets.specs.declared.Day.{Day}
 use Rattle.buffers.specs.Answers.{elementsBytes, countsBytes}
 use Rattle.buffers.specs.Buffers.{elementsOf}

@@ -4,8 +4,8 @@ ghost use Prim.Native.Nat.{_+_, _≤_};
 ghost use lib.ListN.{length, drop};
 ghost use lib.Seq.{sets};
 ghost use Rattle.day_buffer.specs.State.{countsIn, dayOf, dayBytes};
-use label_file::Counts;
 use packets::Day;
+use trailer::Counts;
 
 fn read_counts(buffer: &[u8]) -> Counts
     requires { ⌜ 72 ≤ length (now buffer) ⌝ }

@@ -1,3 +1,4 @@
 pub mod Signed
 pub mod Stores
 pub mod RoundTrip
+pub mod Slices

@@ -1,6 +1,3 @@
-pub mod Sequences
-pub mod Tallies
-pub mod Trailers
 pub mod Readings
 pub mod Writing
 pub mod RoundTrip

@@ -1,6 +1,3 @@
-pub mod Sequence
-pub mod Counts
-pub mod Trailer
 pub mod File
 pub mod Reading
 pub mod Tail

@@ -2,11 +2,10 @@
 ghost use mathlib.Core.Path.{_≡_};
 ghost use Rattle.label_file.specs.Tail.{tailSize};
 ghost use Rattle.label_file.specs.Contract.{TailAnswer};
-use crate::Form;
 use crate::TailReading;
-use crate::TrailerReading;
-use crate::trailer;
 use refusal::Refusal;
+use trailer::Form;
+use trailer::TrailerReading;
 
 const MOST: u64 = trailer::LONGEST as u64;
 

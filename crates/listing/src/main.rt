@@ -8,14 +8,14 @@ ghost use Rattle.label_file.specs.Reading.{fileReading};
 ghost use Rattle.label_file.specs.declared.FileReading.the-variants.{Accepted};
 ghost use Rattle.listing.specs.Contract.{EndsWithin, RoomMade};
 use label::Label;
-use label_file::Counts;
 use label_file::FileReading;
-use label_file::Form;
 use label_file::LONGEST;
 use libc::STDERR_FILENO;
 use libc::STDIN_FILENO;
 use libc::STDOUT_FILENO;
 use refusal::Refusal;
+use trailer::Counts;
+use trailer::Form;
 
 // Where the bytes of the input end that a window holds from its start on, or that a read failed.
 enum Input {

@@ -7,23 +7,24 @@ use mathlib.Core.List.{List, [], _++_}
 use lib.ListN.{length, take, drop, length-append, length-drop}
 use lib.Seq.{sets, sets-eq, take-at, take-length, drop-drop, drop-at, length-take-le}
 use borrow.Author.Tests.{le-ltb, lt-ltb, ltb-false}
+use Rattle.endian.proofs.Slices.{start-part}
 use Rattle.refusal.specs.declared.Refusal.{Refusal}
 use Rattle.refusal.specs.declared.Refusal.the-variants.{OutputLength}
 use Rattle.label.specs.Layout.{labelSize}
-use Rattle.label_file.specs.Sequence.{leading}
-use Rattle.label_file.specs.Counts.{countsOf}
-use Rattle.label_file.specs.Trailer.{trailerSize, distanceBack, trailerBytes}
+use Rattle.trailer.specs.Sequence.{leading}
+use Rattle.trailer.specs.Counts.{countsOf}
+use Rattle.trailer.specs.Trailer.{trailerSize, distanceBack, trailerBytes}
 use Rattle.label_file.specs.File.{partAt, outputRefused}
 use Rattle.label_file.specs.Reading.{keepsAt, heldAt, fileReading, bufferReading}
-use Rattle.label_file.specs.declared.Counts.{Counts}
-use Rattle.label_file.specs.declared.Form.the-variants.{Bytes24}
+use Rattle.trailer.specs.declared.Counts.{Counts}
+use Rattle.trailer.specs.declared.Form.the-variants.{Bytes24}
 use Rattle.label_file.specs.declared.FileReading.the-variants.{Accepted}
 use Rattle.label_file.proofs.Accepted.{stored-counts}
-use Rattle.label_file.proofs.Readings.{start-part, read-within}
+use Rattle.label_file.proofs.Readings.{read-within}
 use Rattle.label_file.proofs.RoundTrip.{part-start, closed-accepted, closed-label}
-use Rattle.label_file.proofs.Sequences.{leading-le, leading-holds}
-use Rattle.label_file.proofs.Tallies.{counts-same}
-use Rattle.label_file.proofs.Trailers.{trailer-length}
+use Rattle.trailer.proofs.Sequences.{leading-le, leading-holds}
+use Rattle.trailer.proofs.Tallies.{counts-same}
+use Rattle.trailer.proofs.Trailers.{trailer-length}
 use Rattle.salvage.specs.declared.Salvage.{Salvage}
 use Rattle.salvage.specs.declared.Salvage.the-variants.{Kept, Refused}
 use Rattle.salvage.specs.Salvage.{wholeLabels, keptLabels, keptBytes, keptCounts, droppedBytes, salvagedFile, salvaging, outputBy, salvagedOutput}

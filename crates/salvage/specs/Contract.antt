@@ -4,12 +4,12 @@ use Prim.Native.Nat.{ℕ, _+_, _*_, _<_}
 use mathlib.Core.List.{List, _++_}
 use lib.ListN.{length, take}
 use Rattle.label.specs.Layout.{labelSize}
-use Rattle.label_file.specs.Counts.{countsOf}
-use Rattle.label_file.specs.Trailer.{distanceBack}
+use Rattle.trailer.specs.Counts.{countsOf}
+use Rattle.trailer.specs.Trailer.{distanceBack}
 use Rattle.label_file.specs.File.{partAt}
 use Rattle.label_file.specs.Reading.{heldAt, bodyIn, fileReading}
 use Rattle.label_file.specs.Stored.{StoredCounts}
-use Rattle.label_file.specs.declared.Form.the-variants.{Bytes24}
+use Rattle.trailer.specs.declared.Form.the-variants.{Bytes24}
 use Rattle.label_file.specs.declared.FileReading.the-variants.{Accepted}
 use Rattle.salvage.specs.declared.Salvage.{Salvage}
 use Rattle.salvage.specs.declared.Salvage.the-variants.{Kept, Refused}

@@ -4,11 +4,11 @@ use Prim.Native.Nat.{ℕ, _*_, _-_, _/_, _≤_, min}
 use mathlib.Core.List.{List}
 use lib.ListN.{length, take}
 use Rattle.label.specs.Layout.{labelSize}
-use Rattle.label_file.specs.Trailer.{distanceBack}
+use Rattle.trailer.specs.Trailer.{distanceBack}
 use Rattle.label_file.specs.Reading.{fileReading}
-use Rattle.label_file.specs.declared.Counts.{Counts}
-use Rattle.label_file.specs.declared.Form.{Form}
-use Rattle.label_file.specs.declared.Form.the-variants.{Bytes24}
+use Rattle.trailer.specs.declared.Counts.{Counts}
+use Rattle.trailer.specs.declared.Form.{Form}
+use Rattle.trailer.specs.declared.Form.the-variants.{Bytes24}
 use Rattle.label_file.specs.declared.FileReading.the-variants.{Accepted}
 use Rattle.salvage.specs.declared.Salvage.the-variants.{Kept}
 use Rattle.salvage.specs.Salvage.{salvaging, salvagedOutput}

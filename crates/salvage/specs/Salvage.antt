@@ -5,13 +5,13 @@ use mathlib.Core.List.{List, _++_}
 use lib.ListN.{length, take, drop}
 use Rattle.refusal.specs.declared.Refusal.the-variants.{OutputLength}
 use Rattle.label.specs.Layout.{labelSize}
-use Rattle.label_file.specs.Sequence.{leading}
-use Rattle.label_file.specs.Counts.{countsOf}
-use Rattle.label_file.specs.Trailer.{distanceBack, trailerBytes}
+use Rattle.trailer.specs.Sequence.{leading}
+use Rattle.trailer.specs.Counts.{countsOf}
+use Rattle.trailer.specs.Trailer.{distanceBack, trailerBytes}
 use Rattle.label_file.specs.File.{outputRefused}
 use Rattle.label_file.specs.Reading.{keepsAt, heldAt}
-use Rattle.label_file.specs.declared.Counts.{Counts}
-use Rattle.label_file.specs.declared.Form.the-variants.{Bytes24}
+use Rattle.trailer.specs.declared.Counts.{Counts}
+use Rattle.trailer.specs.declared.Form.the-variants.{Bytes24}
 use Rattle.salvage.specs.declared.Salvage.{Salvage}
 use Rattle.salvage.specs.declared.Salvage.the-variants.{Kept, Refused}
 

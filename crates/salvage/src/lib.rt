@@ -3,11 +3,11 @@
 ghost use mathlib.Core.Path.{_≡_};
 ghost use Rattle.salvage.specs.Salvage.{wholeLabels};
 ghost use Rattle.salvage.specs.Contract.{Salvaged};
-use label_file::Form;
 use refusal::Refusal;
+use trailer::Form;
 
 // The most labels of a file, and so the most that are kept.
-const MOST: u32 = label_file::MOST_LABELS;
+const MOST: u32 = trailer::MOST_LABELS;
 
 // What salvage gives: how many labels it kept and how many bytes it dropped, or a refusal.
 pub enum Salvage {
@@ -35,11 +35,11 @@ pub fn keep_labels(body: &[u8], output: &mut [u8]) -> Salvage
     let whole = whole_labels(body.len());
     let counts = label_file::count_labels(body, whole as usize);
     let kept = counts.labels;
-    if output.len() < label_file::distance_back(Form::Bytes24, kept) {
+    if output.len() < trailer::distance_back(Form::Bytes24, kept) {
         return Salvage::Refused(Refusal::OutputLength);
     }
     let size = label::SIZE * (kept as usize);
     bytes::copy(&body[0..size], output);
-    label_file::write_trailer(counts, output, size);
+    trailer::write_trailer(counts, output, size);
     Salvage::Kept(kept, body.len() - size)
 }

@@ -30,11 +30,11 @@ use Rattle.elements_file.specs.declared.Parsed.{Parsed}
 use Rattle.elements_file.specs.declared.Parsed.the-variants as parsed
 use Rattle.elements_file.proofs.Consistency.{parsed-in-bounds}
 use Rattle.label.specs.Layout.{labelSize}
-use Rattle.label_file.specs.Counts.{countsOf}
+use Rattle.trailer.specs.Counts.{countsOf}
 use Rattle.label_file.specs.Reading.{heldAt}
-use Rattle.label_file.specs.Trailer.{distanceBack}
-use Rattle.label_file.specs.declared.Counts.{Counts}
-use Rattle.label_file.specs.declared.Form.the-variants.{Bytes24}
+use Rattle.trailer.specs.Trailer.{distanceBack}
+use Rattle.trailer.specs.declared.Counts.{Counts}
+use Rattle.trailer.specs.declared.Form.the-variants.{Bytes24}
 use Rattle.label_file.specs.declared.TailReading.{TailReading}
 use Rattle.label_file.specs.declared.TailReading.the-variants as tail
 use Rattle.label_file.specs.Tail.{tailReading}

@@ -14,9 +14,9 @@ use Rattle.elements.specs.declared.Elements.{Elements}
 use Rattle.elements_file.specs.Contract.{Held}
 use Rattle.label.specs.Layout.{labelSize}
 use Rattle.label_file.specs.Reading.{fileReading}
-use Rattle.label_file.specs.Trailer.{trailerSize}
+use Rattle.trailer.specs.Trailer.{trailerSize}
 use Rattle.label_file.proofs.Readings.{read-within}
-use Rattle.label_file.proofs.Tallies.{counts-bounded, counts-number, plus-number}
+use Rattle.trailer.proofs.Tallies.{counts-bounded, counts-number, plus-number}
 use Rattle.labelling.specs.Day.{outputAfter}
 use Rattle.labelling.specs.Records.{records, labelAt}
 use Rattle.labelling.specs.declared.Labelling.{Labelling}

@@ -5,7 +5,7 @@ use mathlib.Core.List.{List}
 use Rattle.refusal.specs.declared.Refusal.{Refusal}
 use Rattle.elements.specs.declared.Elements.{Elements}
 use Rattle.label_file.specs.File.{fileOf}
-use Rattle.label_file.specs.declared.Form.the-variants.{Bytes24}
+use Rattle.trailer.specs.declared.Form.the-variants.{Bytes24}
 use Rattle.labelling.specs.Contract.{LabelledDay}
 use Rattle.labelling.specs.Records.{records, labelAt, bufferBy}
 use Rattle.labelling.specs.Day.{outputAfter}

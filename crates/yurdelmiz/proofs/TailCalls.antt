@@ -11,19 +11,19 @@ use Rattle.refusal.specs.Numbers.{numberOf}
 use Rattle.refusal.specs.declared.Refusal.{Refusal}
 use Rattle.refusal.specs.declared.Refusal.the-variants.{Trailer}
 use Rattle.refusal.proofs.Numbers.{never-0, one-each}
-use Rattle.label_file.specs.declared.Counts.{Counts}
-use Rattle.label_file.specs.declared.Form.{Form}
-use Rattle.label_file.specs.declared.Form.the-variants.{Bytes16, Bytes24}
+use Rattle.trailer.specs.declared.Counts.{Counts}
+use Rattle.trailer.specs.declared.Form.{Form}
+use Rattle.trailer.specs.declared.Form.the-variants.{Bytes16, Bytes24}
 use Rattle.label_file.specs.declared.FileReading.{FileReading}
 use Rattle.label_file.specs.declared.FileReading.the-variants as reading
 use Rattle.label_file.specs.declared.TailReading.{TailReading}
 use Rattle.label_file.specs.declared.TailReading.the-variants as tail
-use Rattle.label_file.specs.Counts.{countsOf}
-use Rattle.label_file.specs.Trailer.{trailerSize, stating}
+use Rattle.trailer.specs.Counts.{countsOf}
+use Rattle.trailer.specs.Trailer.{trailerSize, stating}
 use Rattle.label_file.specs.Reading.{fileReading}
 use Rattle.label_file.specs.Tail.{tailIn, tailReading, SaysOf}
 use Rattle.label_file.proofs.Readings.{read-whole}
-use Rattle.label_file.proofs.Trailers.{size-bounds, trailer-says}
+use Rattle.trailer.proofs.Trailers.{size-bounds, trailer-says}
 use Rattle.label_file.proofs.Accepted.{accepted-file}
 use Rattle.label_file.proofs.Tails.{tail-says}
 use Rattle.buffers.specs.Answers.{words, countsBytes, readBytes, notHeld}

@@ -4,7 +4,7 @@ use mathlib.Core.Path.{sym, subst}
 use Prim.Native.Nat.{_*_, _≤_}
 use lib.Seq.{length-take-le}
 use native.Mathlib.Omega.{arith}
-use Rattle.label_file.specs.Trailer.{trailerSize}
+use Rattle.trailer.specs.Trailer.{trailerSize}
 use Rattle.label_file.specs.File.{longest}
 use Rattle.listing.specs.Contract.{EndsWithin}
 use Rattle.listing.proofs.main.Statement.{statement}

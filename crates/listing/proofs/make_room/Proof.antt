@@ -9,9 +9,9 @@ use native.Mathlib.Omega.{arith}
 use denote.Ref.{now}
 use lib.ListN.{length, take, drop, length-drop}
 use lib.Seq.{take-all, take-at, take-length}
-use Rattle.label_file.specs.Trailer.{trailerSize}
+use Rattle.endian.proofs.Slices.{rest-part}
+use Rattle.trailer.specs.Trailer.{trailerSize}
 use Rattle.label_file.specs.File.{longest}
-use Rattle.label_file.proofs.Readings.{rest-part}
 use Rattle.listing.specs.Contract.{RoomMade}
 use Rattle.listing.proofs.make_room.Statement.{statement}
 use Rattle.listing.proofs.make_room.Tie as tie

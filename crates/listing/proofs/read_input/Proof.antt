@@ -3,7 +3,7 @@ use borrow.Author.Needs.{needs}
 use mathlib.Core.Path.{_≡_}
 use Prim.Native.Nat.{_*_, _<_}
 use lib.ListN.{length}
-use Rattle.label_file.specs.Trailer.{trailerSize}
+use Rattle.trailer.specs.Trailer.{trailerSize}
 use Rattle.label_file.specs.File.{longest}
 use Rattle.listing.proofs.read_input.Statement.{statement}
 use Rattle.listing.proofs.read_input.Tie as tie

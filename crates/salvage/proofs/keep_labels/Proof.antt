@@ -6,9 +6,9 @@ use native.Mathlib.Omega.{arith}
 use denote.Ref.{now}
 use lib.ListN.{length}
 use Rattle.label.specs.Layout.{labelSize}
-use Rattle.label_file.specs.Trailer.{distanceBack}
-use Rattle.label_file.specs.declared.Counts.{Counts}
-use Rattle.label_file.specs.declared.Form.the-variants.{Bytes24}
+use Rattle.trailer.specs.Trailer.{distanceBack}
+use Rattle.trailer.specs.declared.Counts.{Counts}
+use Rattle.trailer.specs.declared.Form.the-variants.{Bytes24}
 use Rattle.salvage.specs.Salvage.{keptLabels, keptCounts}
 use Rattle.salvage.proofs.Written.{start-copied, counts-kept, kept-number, kept-few, kept-within, output-refused, salvaged}
 use Rattle.salvage.proofs.keep_labels.Statement.{statement}

@@ -6,8 +6,8 @@ use denote.Ref.{now}
 use lib.Seq.{sets}
 use Rattle.endian.specs.LittleEndian.{bytes4}
 use Rattle.endian.proofs.Stores.{then, over-all}
-use Rattle.label_file.specs.Trailer.{trailerSize}
-use Rattle.label_file.proofs.Trailers.{size-bounds}
+use Rattle.trailer.specs.Trailer.{trailerSize}
+use Rattle.trailer.proofs.Trailers.{size-bounds}
 use Rattle.buffers.specs.Answers.{words, countsBytes, readBytes}
 use borrow.Author.Needs.{needs}
 use Rattle.buffers.proofs.answers.write_reading.Statement.{statement}

@@ -2,10 +2,10 @@
 use borrow.Author.Needs.{needs}
 use mathlib.Core.Path.{_≡_, refl, _∙_, sym, ap}
 use denote.Ref.{now}
-use Rattle.label_file.specs.declared.Form.{Form}
+use Rattle.trailer.specs.declared.Form.{Form}
 use Rattle.label_file.specs.declared.TailReading.{TailReading}
-use Rattle.label_file.specs.declared.TrailerReading.{TrailerReading}
-use Rattle.label_file.specs.declared.TrailerReading.the-variants.{Allowed}
+use Rattle.trailer.specs.declared.TrailerReading.{TrailerReading}
+use Rattle.trailer.specs.declared.TrailerReading.the-variants.{Allowed}
 use Rattle.label_file.specs.Tail.{heldBy}
 use Rattle.label_file.specs.Contract.{TailAnswer}
 use Rattle.label_file.proofs.Tails.{bytes-off, trailer-tells, answers}

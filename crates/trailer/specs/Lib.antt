@@ -1,0 +1,4 @@
+pub mod Sequence
+pub mod Counts
+pub mod Trailer
+pub mod Contract
