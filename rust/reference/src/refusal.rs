@@ -31,6 +31,8 @@ pub enum Refusal {
     Labels = 13,
     /// Position or Sun component out of range.
     Component = 14,
+    /// Scale figures of 1,000 files already, or that are none of label files.
+    Figures = 15,
     /// Half the mean motion's derivative beyond ±1,000,000, or the mean motion less 60 times its size
     /// below 20,000,000.
     MeanMotionDerivative = 16,
@@ -45,8 +47,8 @@ impl Refusal {
     }
 }
 
-/// A refusal from labelling, packets, reading or adding, with the number of the record or label over the whole
-/// day or file.
+/// A refusal from labelling, packets, reading, adding or scale figures, with the number of the record or label over
+/// the whole day or file.
 #[derive(Clone, Copy, Debug, PartialEq, Eq)]
 pub struct Refused {
     pub refusal: Refusal,
