@@ -1,6 +1,6 @@
 //! The C interface, as include/yurdelmiz.h describes it.
 
-/// Status of a call whose `elements`, `day` or `answer` has a wrong length.
+/// Status of a call whose `elements`, `day`, `figures` or `answer` has a wrong length.
 pub const BAD_BUFFER: u32 = 255;
 
 /// Status of [`yurdelmiz_elements`]: a line does not begin with the name that is due, and a space.
@@ -26,6 +26,8 @@ pub const MALFORMED_TOO_LONG: u32 = 109;
 pub const ELEMENTS_BYTES: usize = 52;
 /// Length of `day`, the state of a day that takes packets.
 pub const DAY_BYTES: usize = 89;
+/// Length of `figures`, the scale figures of label files.
+pub const FIGURES_BYTES: usize = 48;
 /// Length of the answer of [`yurdelmiz_kepler`].
 pub const KEPLER_BYTES: usize = 8;
 /// Length of the answer of [`yurdelmiz_sun`].
@@ -136,6 +138,15 @@ extern "C" {
         answer: *mut u8,
         answer_len: usize,
     ) -> u32;
+
+    /// Adds the label file in the first `size` bytes of `file` to `figures`.
+    pub fn yurdelmiz_scale(
+        figures: *mut u8,
+        figures_len: usize,
+        file: *const u8,
+        file_len: usize,
+        size: usize,
+    ) -> u64;
 
     /// Keeps the labels at the start of `bytes` as a label file in `output`.
     pub fn yurdelmiz_salvage(

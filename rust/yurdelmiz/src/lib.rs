@@ -6,7 +6,7 @@
 //!
 //! ```
 //! use yurdelmiz::{add_to_vec, dark_test, label_to_vec, parse_elements, salvage_to_vec};
-//! use yurdelmiz::{Day, LabelFile, Reading, Salvaged, Sample, Shade, Side};
+//! use yurdelmiz::{Day, Figures, LabelFile, Reading, Salvaged, Sample, Shade, Side};
 //!
 //! let elements = parse_elements(
 //!     b"eccentricity 6100000
@@ -51,6 +51,11 @@
 //! file.extend(day.packet_to_vec(&telemetry[20..])?);
 //! file.extend(day.close_to_vec()?);
 //! assert_eq!(file, bytes);
+//!
+//! // What a model's inputs are scaled by, from training labels alone.
+//! let mut figures = Figures::default();
+//! figures.add(&bytes)?;
+//! assert_eq!((figures.files, figures.labels, figures.greatest), (1, 2, Some(7.0)));
 //! # Ok::<(), Box<dyn std::error::Error>>(())
 //! ```
 
@@ -69,6 +74,7 @@ mod labelling;
 mod orbit;
 mod refusal;
 mod salvage;
+mod scale;
 mod sun;
 mod tail;
 mod telemetry;
@@ -87,6 +93,7 @@ pub use labelling::{add, add_to_vec, label_day, label_to_vec, Added};
 pub use orbit::{position, Position, State};
 pub use refusal::{Refusal, Refused};
 pub use salvage::{salvage, salvage_to_vec, Salvaged};
+pub use scale::Figures;
 pub use sun::{sun, Direction, Sun};
 pub use tail::dark_test;
 pub use telemetry::{Reading, Sample};

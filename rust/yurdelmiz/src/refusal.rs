@@ -36,6 +36,8 @@ pub enum Refusal {
     Labels,
     /// 14: of a position beyond 200,000,000 metres, or of the Sun beyond 2^30, either way.
     Component,
+    /// 15: of 1,000 files already, or none of label files.
+    Figures,
     /// 16: half of it beyond 1,000,000 units of 10^-8 revolution a day squared either way, or the mean
     /// motion less 60 times its size below 20,000,000 units.
     MeanMotionDerivative,
@@ -44,7 +46,7 @@ pub enum Refusal {
 }
 
 /// Each refusal with its number and its sentence.
-const TABLE: [(Refusal, u32, &str); 15] = [
+const TABLE: [(Refusal, u32, &str); 16] = [
     (Refusal::Eccentricity, 1, "the eccentricity is above 0.9"),
     (Refusal::SemiMajorAxis, 2, "the semi-major axis is not within 6,600 to 100,000 km"),
     (Refusal::PerigeeDistance, 3, "the perigee is less than 6,478 km from the Earth's centre"),
@@ -58,6 +60,7 @@ const TABLE: [(Refusal, u32, &str); 15] = [
     (Refusal::Trailer, 12, "the label file's length and its trailer do not fit"),
     (Refusal::Labels, 13, "a label breaks the rules, or the trailer's counts are not those of the labels"),
     (Refusal::Component, 14, "a position or the Sun's direction is out of range"),
+    (Refusal::Figures, 15, "the figures have 1,000 files already, or are none of label files"),
     (Refusal::MeanMotionDerivative, 16, "half the mean motion's derivative is beyond 0.01 revolutions a day squared, or brings the mean motion below 0.2 revolutions a day within 30 days of the epoch"),
     (Refusal::Day, 24, "the day is closed, or its state is none of a day"),
 ];
@@ -91,8 +94,8 @@ impl fmt::Display for Refusal {
 
 impl Error for Refusal {}
 
-/// A refusal from labelling, packets, reading or adding, with the number of the record or label from 0, which in
-/// packets counts over the whole day, and in adding over the whole file.
+/// A refusal from labelling, packets, reading, adding or scale figures, with the number of the record or label from 0,
+/// which in packets counts over the whole day, and in adding over the whole file.
 #[derive(Clone, Copy, Debug, PartialEq, Eq, Hash)]
 pub struct Refused {
     /// Why.
