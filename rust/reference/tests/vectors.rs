@@ -5,11 +5,12 @@ use reference::file::{add, label_day, read};
 use reference::orbit::Position;
 use reference::packets;
 use reference::salvage::{salvage, Salvaged};
+use reference::scale;
 use reference::sun::{sun, Direction};
 use reference::tail::dark_test;
 use reference::trailer::Counts;
 use reference::{kepler, Refusal};
-use vectors::{Day, Elements, Labeller, Refused};
+use vectors::{Day, Elements, Figures, Labeller, Refused};
 
 struct Reference;
 
@@ -140,6 +141,18 @@ impl Labeller for Reference {
         let closed = left.close(output).map(|_| ()).map_err(refused);
         put_back(state, &left);
         closed
+    }
+
+    fn scale(&self, figures: &mut Figures, buffer: &[u8], length: usize) -> Result<(), Refused> {
+        let Figures { files, labels, dark, valid, least, greatest, sines, squares } = *figures;
+        let [least, greatest] = [least, greatest].map(|bits| bits.map(f32::from_bits));
+        let mut left =
+            scale::Figures { files, labels, dark, valid, least, greatest, sines, squares };
+        let added = left.add(buffer, length).map_err(refused);
+        let scale::Figures { files, labels, dark, valid, least, greatest, sines, squares } = left;
+        let [least, greatest] = [least, greatest].map(|watts| watts.map(f32::to_bits));
+        *figures = Figures { files, labels, dark, valid, least, greatest, sines, squares };
+        added
     }
 }
 

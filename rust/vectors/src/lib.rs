@@ -4,10 +4,11 @@ use std::fmt::Display;
 use std::str::{FromStr, SplitWhitespace};
 
 /// The vectors, with the number of their lines; the head of a file says what a line holds.
-const VECTORS: [(&str, usize); 4] = [
+const VECTORS: [(&str, usize); 5] = [
     (include_str!("../../../vectors/K01.txt"), 666),
     (include_str!("../../../vectors/K04.txt"), 1_760),
     (include_str!("../../../vectors/K05.txt"), 410),
+    (include_str!("../../../vectors/K06.txt"), 400),
     (include_str!("../../../vectors/K12.txt"), 152),
 ];
 
@@ -49,6 +50,19 @@ pub struct Day {
     pub counts: [u32; 5],
 }
 
+/// Scale figures. An extreme is its watts' bits, where it is held.
+#[derive(Clone, Copy, Debug, PartialEq, Eq)]
+pub struct Figures {
+    pub files: u32,
+    pub labels: u32,
+    pub dark: u32,
+    pub valid: u32,
+    pub least: Option<u32>,
+    pub greatest: Option<u32>,
+    pub sines: i64,
+    pub squares: u64,
+}
+
 /// What the vectors ask. Answers are in the order of a line; a refusal is its number.
 pub trait Labeller {
     fn sine(&self, angle: u32) -> i64;
@@ -75,6 +89,8 @@ pub trait Labeller {
     /// The labels written.
     fn packet(&self, day: &mut Day, packet: &[u8], output: &mut [u8]) -> Result<usize, Refused>;
     fn close(&self, day: &mut Day, output: &mut [u8]) -> Result<(), Refused>;
+    /// Adds the file in the first `length` bytes of `buffer`.
+    fn scale(&self, figures: &mut Figures, buffer: &[u8], length: usize) -> Result<(), Refused>;
 }
 
 /// The words of a line's inputs, taken one after another.
@@ -135,6 +151,27 @@ impl<'a> Inputs<'a> {
             counts: [0; 5].map(|_| self.number()),
         }
     }
+
+    /// Hex digits, or `-` for none.
+    fn extreme(&mut self) -> Option<u32> {
+        match self.word() {
+            "-" => None,
+            digits => Some(u32::from_str_radix(digits, 16).expect("hex digits")),
+        }
+    }
+
+    fn figures(&mut self) -> Figures {
+        Figures {
+            files: self.number(),
+            labels: self.number(),
+            dark: self.number(),
+            valid: self.number(),
+            least: self.extreme(),
+            greatest: self.extreme(),
+            sines: self.number(),
+            squares: self.number(),
+        }
+    }
 }
 
 /// The text of an accepted answer.
@@ -169,6 +206,16 @@ fn state(day: &Day) -> Vec<String> {
     assert!(behind.iter().all(|byte| *byte == 0), "zeros behind the bytes held");
     let counts = day.counts.iter().map(u32::to_string);
     [hex_or_dash(held)].into_iter().chain(counts).collect()
+}
+
+/// Figures as a line has them.
+fn figures_text(figures: &Figures) -> Vec<String> {
+    let Figures { files, labels, dark, valid, least, greatest, sines, squares } = *figures;
+    let extreme =
+        |bits: Option<u32>| bits.map_or_else(|| "-".to_string(), |bits| format!("{bits:08x}"));
+    let counts = [files, labels, dark, valid].map(|count| count.to_string());
+    let extremes = [extreme(least), extreme(greatest)];
+    [&counts[..], &extremes, &[sines.to_string(), squares.to_string()]].concat()
 }
 
 /// What a call gives and leaves in an output of `room` bytes; a refusal leaves it as it was.
@@ -265,6 +312,16 @@ fn answer(labeller: &impl Labeller, subject: &str, mut inputs: Inputs) -> String
             let closed = outcome.is_ok() || before.closed;
             assert_eq!(day, Day { closed, ..before }, "what stays of a day");
             outcome.map_or_else(refused_at, |((), output)| accepted([hex(&output)]))
+        }
+        "scale" => {
+            let before = inputs.figures();
+            let buffer = inputs.bytes();
+            let mut figures = before;
+            let outcome = labeller.scale(&mut figures, &buffer, inputs.number());
+            if outcome.is_err() {
+                assert_eq!(figures, before, "a refused file adds nothing");
+            }
+            outcome.map_or_else(refused_at, |()| accepted(figures_text(&figures)))
         }
         _ => panic!("no subject {subject}"),
     }

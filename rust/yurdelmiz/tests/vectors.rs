@@ -1,7 +1,7 @@
 //! The proved library answers every vector.
 
-use vectors::{Day, Elements, Labeller, Refused};
-use yurdelmiz::{Counts, Direction, Position, Refusal, Salvaged};
+use vectors::{Day, Elements, Figures, Labeller, Refused};
+use yurdelmiz::{ffi, Counts, Direction, Position, Refusal, Salvaged};
 
 struct Library;
 
@@ -140,6 +140,40 @@ impl Labeller for Library {
         let closed = left.close(output).map(|_| ()).map_err(refused);
         put_back(state, &left);
         closed
+    }
+
+    /// By the call itself, which takes a length beyond the buffer too.
+    fn scale(&self, figures: &mut Figures, buffer: &[u8], length: usize) -> Result<(), Refused> {
+        let Figures { files, labels, dark, valid, least, greatest, sines, squares } = *figures;
+        let [least, greatest] = [least, greatest].map(|bits| bits.map(f32::from_bits));
+        let before =
+            yurdelmiz::Figures { files, labels, dark, valid, least, greatest, sines, squares };
+        let mut bytes = before.to_bytes();
+        // SAFETY: the slices are `bytes` and `buffer`.
+        let result = unsafe {
+            ffi::yurdelmiz_scale(
+                bytes.as_mut_ptr(),
+                bytes.len(),
+                buffer.as_ptr(),
+                buffer.len(),
+                length,
+            )
+        };
+        let left = yurdelmiz::Figures::from_bytes(&bytes);
+        let yurdelmiz::Figures { files, labels, dark, valid, least, greatest, sines, squares } =
+            left;
+        let [least, greatest] = [least, greatest].map(|watts| watts.map(f32::to_bits));
+        *figures = Figures { files, labels, dark, valid, least, greatest, sines, squares };
+        let told = match (result as u32, (result >> 32) as u32) {
+            (0, 0) => Ok(()),
+            told => Err(told),
+        };
+        if length == buffer.len() {
+            let mut added = before;
+            assert_eq!(added.add(buffer).map_err(refused), told);
+            assert_eq!(added.to_bytes(), bytes);
+        }
+        told
     }
 }
 
