@@ -24,6 +24,27 @@ pub fn number(random: &mut Random, edges: &[u32]) -> u32 {
     }
 }
 
+/// Any number up to the most, often none or all.
+pub fn up_to(random: &mut Random, most: u32) -> u32 {
+    match random.below(4) {
+        0 => 0,
+        1 => most,
+        _ => random.below(u64::from(most) + 1) as u32,
+    }
+}
+
+/// At a bound, next to it, at the end of the numbers, or anywhere.
+pub fn about(random: &mut Random, bound: u32) -> u32 {
+    match random.below(8) {
+        0 => bound,
+        1..=3 => bound.wrapping_add(1),
+        4 => u32::MAX,
+        5 => u32::MAX - random.below(3) as u32,
+        6 => 1 << 31,
+        _ => random.u32() >> random.below(32),
+    }
+}
+
 pub fn angle(random: &mut Random) -> u32 {
     number(random, &[0, 1 << 30, 1 << 31, 3 << 30])
 }

@@ -346,7 +346,7 @@ fn any_labels(random: &mut Random, number: usize) -> Vec<u8> {
 }
 
 /// A label of any fields that keep the field rules, often at their edges.
-fn any_label(random: &mut Random) -> [u8; LABEL_BYTES] {
+pub fn any_label(random: &mut Random) -> [u8; LABEL_BYTES] {
     let mut label = [0; LABEL_BYTES];
     let time = inputs::any_time(random).clamp(inputs::TIME_MIN, inputs::TIME_MAX);
     put(&mut label, 0, &time.to_le_bytes());
@@ -376,6 +376,12 @@ pub fn any_fields(random: &mut Random, number: usize) -> File {
     let labels: Vec<u8> = (0..number).flat_map(|_| any_label(random)).collect();
     let form = random.pick(&Form::ALL);
     File::of(random, form, &labels, 0)
+}
+
+/// The file of labels, with either trailer, behind any bytes.
+pub fn any_file(random: &mut Random, labels: &[[u8; LABEL_BYTES]]) -> File {
+    let (form, ahead) = (random.pick(&Form::ALL), bytes_ahead(random));
+    File::of(random, form, &labels.concat(), ahead)
 }
 
 /// A file that is quickly made, of which the trailer matters: sound, damaged in its trailer, or cut to about

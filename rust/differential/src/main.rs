@@ -2,9 +2,9 @@
 //!
 //!     differential [--seed N] [--count N]
 //!
-//! Each cheap subject gets `count` comparisons (1,000,000 where none is given), elements files, tails, salvage and
-//! packets a tenth of it, labelling, reading and adding a hundredth in days and files. The same seed gives the
-//! same inputs.
+//! Each cheap subject gets `count` comparisons (1,000,000 where none is given), scale figures a fourth of it, elements
+//! files, tails, salvage and packets a tenth, labelling, reading and adding a hundredth in days and files. The same
+//! seed gives the same inputs.
 
 mod additions;
 mod answers;
@@ -14,11 +14,13 @@ mod elements_files;
 mod files;
 mod inputs;
 mod label_files;
+mod lent;
 mod numbers;
 mod packets;
 mod random;
 mod report;
 mod salvages;
+mod scales;
 mod shades;
 mod tails;
 
@@ -58,7 +60,7 @@ fn main() -> ExitCode {
         return ExitCode::from(2);
     };
     println!("seed {seed}");
-    let subjects: [(&str, u64, Subject); 15] = [
+    let subjects: [(&str, u64, Subject); 16] = [
         ("sine", count, numbers::sine),
         ("kepler", count, numbers::kepler),
         ("position", count, numbers::position),
@@ -74,6 +76,7 @@ fn main() -> ExitCode {
         ("tail", count / 10, tails::tail),
         ("salvage", count / 10, salvages::salvage),
         ("packets", count / 10, packets::packets),
+        ("scale", count / 4, scales::scale),
     ];
     let mut differences = 0;
     for (number, (name, rounds, compare)) in subjects.into_iter().enumerate() {

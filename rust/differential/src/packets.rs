@@ -10,14 +10,11 @@ use reference::trailer::{Counts, Form};
 use yurdelmiz::ffi;
 
 use crate::answers::{counts, form, reference_refused, Refused};
-use crate::inputs;
+use crate::inputs::{self, about, up_to};
+use crate::lent::Lent;
 use crate::numbers::library_elements;
 use crate::random::Random;
 use crate::report::{Hex, Report};
-
-/// Bytes on both sides of a buffer that is lent.
-const GUARD: usize = 16;
-const GUARD_BYTE: u8 = 0xd5;
 
 /// Where the state has its counts, whether it is closed, and how many bytes it holds.
 const COUNTS: usize = 52;
@@ -34,26 +31,6 @@ pub fn packets(random: &mut Random, report: &mut Report) {
         0 => whole_day(random, report),
         1 => opening(random, report),
         _ => any_state(random, report),
-    }
-}
-
-/// A buffer between guards.
-struct Lent(Vec<u8>);
-
-impl Lent {
-    fn new(bytes: &[u8]) -> Lent {
-        let guard = [GUARD_BYTE; GUARD];
-        Lent([&guard[..], bytes, &guard].concat())
-    }
-
-    fn bytes(&mut self) -> &mut [u8] {
-        let end = self.0.len() - GUARD;
-        &mut self.0[GUARD..end]
-    }
-
-    fn guarded(&self) -> bool {
-        let (ahead, behind) = (&self.0[..GUARD], &self.0[self.0.len() - GUARD..]);
-        [ahead, behind].concat().iter().all(|byte| *byte == GUARD_BYTE)
     }
 }
 
@@ -333,15 +310,6 @@ fn whole_day(random: &mut Random, report: &mut Report) {
     }
 }
 
-/// Any number up to the most, often none or all.
-fn up_to(random: &mut Random, most: u32) -> u32 {
-    match random.below(4) {
-        0 => 0,
-        1 => most,
-        _ => random.below(u64::from(most) + 1) as u32,
-    }
-}
-
 /// Counts that a day may have, with so many labels.
 fn some_counts(random: &mut Random, labels: u32) -> Counts {
     let training = up_to(random, labels);
@@ -349,18 +317,6 @@ fn some_counts(random: &mut Random, labels: u32) -> Counts {
     let dark = up_to(random, labels);
     let dark_test = up_to(random, test.min(dark));
     Counts { labels, training, test, dark, dark_test }
-}
-
-/// At a bound, next to it, at the end of the numbers, or anywhere.
-fn about(random: &mut Random, bound: u32) -> u32 {
-    match random.below(8) {
-        0 => bound,
-        1..=3 => bound.wrapping_add(1),
-        4 => u32::MAX,
-        5 => u32::MAX - random.below(3) as u32,
-        6 => 1 << 31,
-        _ => random.u32() >> random.below(32),
-    }
 }
 
 /// Takes one of the counts to a bound or over it.
