@@ -218,7 +218,7 @@ mod tests {
 
     #[test]
     fn near_words() {
-        let names = ["label", "list", "dark-test", "salvage", "plot", "help"];
+        let names = ["label", "list", "dark-test", "scale", "salvage", "plot", "help"];
         for (word, near) in [
             ("lable", Some("label")),
             ("labels", Some("label")),
@@ -226,6 +226,7 @@ mod tests {
             ("plt", Some("plot")),
             ("hlep", Some("help")),
             ("darktest", Some("dark-test")),
+            ("scael", Some("scale")),
             ("savage", Some("salvage")),
             ("salvge", Some("salvage")),
             ("nonsense", None),

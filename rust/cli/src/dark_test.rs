@@ -6,9 +6,9 @@ use std::path::Path;
 use yurdelmiz::{dark_test, LabelFile, Refusal};
 
 use crate::arguments::{Arguments, Command};
-use crate::decimal::grouped;
 use crate::failure::Failure;
 use crate::stdout::Lines;
+use crate::tally::Tally;
 use crate::{input, quote};
 
 pub const COMMAND: Command = Command {
@@ -24,7 +24,12 @@ fn run(arguments: &Arguments) -> Result<(), Failure> {
     let mut tally = Tally::default();
     for path in arguments.paths() {
         let answer = ask(path);
-        tally.count(&answer);
+        tally.files += 1;
+        match answer {
+            Answer::Held(_) | Answer::NotHeld => {}
+            Answer::Refused(_) => tally.refused += 1,
+            Answer::Unread(_) => tally.unread += 1,
+        }
         lines.print(format_args!("{}\t{answer}\n", quote::name(path)))?;
     }
     lines.end()?;
@@ -60,39 +65,6 @@ impl Display for Answer {
             Answer::NotHeld => write!(f, "not held"),
             Answer::Refused(refusal) => write!(f, "refused {}", refusal.number()),
             Answer::Unread(why) => write!(f, "cannot be read: {why}"),
-        }
-    }
-}
-
-/// How many files are named, and how many of them are refused or could not be read.
-#[derive(Default)]
-struct Tally {
-    files: u64,
-    refused: u64,
-    unread: u64,
-}
-
-impl Tally {
-    fn count(&mut self, answer: &Answer) {
-        self.files += 1;
-        match answer {
-            Answer::Held(_) | Answer::NotHeld => {}
-            Answer::Refused(_) => self.refused += 1,
-            Answer::Unread(_) => self.unread += 1,
-        }
-    }
-
-    fn verdict(&self) -> Result<(), Failure> {
-        let Tally { files, refused, unread } = *self;
-        let of = |number: u64| format!("{} of {} files", grouped(number), grouped(files));
-        match (refused, unread) {
-            (0, 0) => Ok(()),
-            (_, 0) => Err(Failure::refused(format!("refused {}", of(refused)))),
-            (0, _) => Err(Failure::unread(format!("could not read {}", of(unread)))),
-            _ => {
-                let both = format!("could not read {}, refused {}", of(unread), of(refused));
-                Err(Failure::unread(both))
-            }
         }
     }
 }

@@ -35,7 +35,16 @@ pub fn shortest(number: f32) -> String {
     if number == 0.0 {
         return if number.is_sign_negative() { "-0.0" } else { "0" }.to_owned();
     }
-    let (plain, power) = (format!("{number}"), format!("{number:e}"));
+    shorter(format!("{number}"), format!("{number:e}"))
+}
+
+/// The same of a binary64 that is not below zero.
+pub fn shortest_64(number: f64) -> String {
+    shorter(format!("{number}"), format!("{number:e}"))
+}
+
+/// A number with a power of ten where that is shorter.
+fn shorter(plain: String, power: String) -> String {
     if power.len() < plain.len() {
         power
     } else {

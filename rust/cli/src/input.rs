@@ -14,9 +14,14 @@ fn unread(path: &Path, why: impl std::fmt::Display) -> Failure {
 }
 
 fn open(path: &Path) -> Result<File, Failure> {
-    let file = File::open(path).map_err(|error| unread(path, words(&error)))?;
+    opened(path).map_err(|why| unread(path, why))
+}
+
+/// The same, or why it cannot be read.
+fn opened(path: &Path) -> Result<File, String> {
+    let file = File::open(path).map_err(|error| words(&error))?;
     if fs::metadata(path).is_ok_and(|metadata| metadata.is_dir()) {
-        return Err(unread(path, FOLDER));
+        return Err(FOLDER.to_owned());
     }
     Ok(file)
 }
@@ -61,11 +66,13 @@ pub fn read_whole(path: &Path) -> Result<End, Failure> {
 
 /// The last `most` bytes of a file of any length.
 pub fn read_end(path: &Path, most: usize) -> Result<End, Failure> {
-    let mut file = open(path)?;
-    let ahead = match skip_to_end(&mut file, most) {
-        Ok(ahead) => ahead,
-        Err(error) => return Err(unread(path, words(&error))),
-    };
+    end_of(path, most).map_err(|why| unread(path, why))
+}
+
+/// The same, or why it cannot be read.
+pub fn end_of(path: &Path, most: usize) -> Result<End, String> {
+    let mut file = opened(path)?;
+    let ahead = skip_to_end(&mut file, most).map_err(|error| words(&error))?;
     let mut bytes = Vec::new();
     let mut length = ahead;
     let mut block = [0; 65_536];
@@ -81,7 +88,7 @@ pub fn read_end(path: &Path, most: usize) -> Result<End, Failure> {
                 }
             }
             Err(error) if error.kind() == io::ErrorKind::Interrupted => {}
-            Err(error) => return Err(unread(path, words(&error))),
+            Err(error) => return Err(words(&error)),
         }
     }
     bytes.drain(..bytes.len().saturating_sub(most));

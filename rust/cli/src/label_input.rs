@@ -1,4 +1,4 @@
-//! Label files as `list` and `plot` read them: what one refuses the other refuses, in the same words.
+//! Label files as `list`, `plot` and `scale` read them: what one refuses the others refuse, in the same words.
 
 use std::path::Path;
 
@@ -21,6 +21,15 @@ impl LabelInput {
         input::read_end(path, LabelFile::LONGEST).map(LabelInput)
     }
 
+    /// The same, or why it cannot be read.
+    pub fn open(path: &Path) -> Result<LabelInput, String> {
+        input::end_of(path, LabelFile::LONGEST).map(LabelInput)
+    }
+
+    pub fn bytes(&self) -> &[u8] {
+        &self.0.bytes
+    }
+
     /// The proved reader's verdict.
     pub fn file(&self) -> Result<LabelFile<'_>, Refused> {
         LabelFile::read(&self.0.bytes)
@@ -29,5 +38,10 @@ impl LabelInput {
     /// Why the proved reader refused it.
     pub fn failure(&self, path: &Path, refused: Refused) -> Failure {
         refused_file::failure(path, &self.0, refused)
+    }
+
+    /// The same without the file's name.
+    pub fn why(&self, refused: Refused) -> String {
+        refused_file::why(&self.0, refused)
     }
 }

@@ -29,11 +29,13 @@ mod refused_day;
 mod refused_elements;
 mod refused_file;
 mod salvage;
+mod scale;
 #[allow(unsafe_code)]
 mod signals;
 #[allow(unsafe_code)]
 mod standard_input;
 mod stdout;
+mod tally;
 mod telemetry_csv;
 mod telemetry_input;
 mod third_law;
@@ -46,11 +48,12 @@ use arguments::Command;
 use failure::Failure;
 
 /// The subcommands beside `help`.
-const COMMANDS: [&Command; 6] = [
+const COMMANDS: [&Command; 7] = [
     &label::COMMAND,
     &add::COMMAND,
     &list::COMMAND,
     &dark_test::COMMAND,
+    &scale::COMMAND,
     &salvage::COMMAND,
     &plot::COMMAND,
 ];

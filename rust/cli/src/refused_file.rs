@@ -13,12 +13,15 @@ use crate::input::{looks_like_text, End};
 use crate::quote;
 
 pub fn failure(path: &Path, end: &End, refused: Refused) -> Failure {
-    let why = match refused.refusal {
+    Failure::refused(format!("{}: {}", quote::path(path), why(end, refused)))
+}
+
+pub fn why(end: &End, refused: Refused) -> String {
+    match refused.refusal {
         Refusal::Trailer => trailer_fault(end),
         Refusal::Labels => labels_fault(&end.bytes, refused.place),
         _ => refused.to_string(),
-    };
-    Failure::refused(format!("{}: {why}", quote::path(path)))
+    }
 }
 
 /// The bytes of a number in a trailer.

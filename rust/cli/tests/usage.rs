@@ -53,6 +53,13 @@ fn mistakes() {
         "dark-test has no option '--csv': a file whose name begins with - stands after --",
     );
     mistake(&["dark_test", "a"], "there is no command 'dark_test': did you mean dark-test?");
+    mistake(&["scale"], "scale: FILE is missing");
+    mistake(&["scale", "elements", ""], "scale: FILE is empty");
+    mistake(
+        &["scale", "--json", "elements"],
+        "scale has no option '--json': a file whose name begins with - stands after --",
+    );
+    mistake(&["scales", "a"], "there is no command 'scales': did you mean scale?");
     mistake(&["salvage"], "salvage: DAMAGED and LABELS are missing");
     mistake(&["salvage", "elements"], "salvage: LABELS is missing");
     mistake(&["salvage", "elements", ""], "salvage: LABELS is empty");
@@ -116,7 +123,7 @@ fn help() {
     for words in [&["--help"][..], &["-h"], &["help", "help"], &["help", "--help"]] {
         folder.run(words).is(0, &general.stdout);
     }
-    for name in ["label", "add", "list", "dark-test", "salvage", "plot"] {
+    for name in ["label", "add", "list", "dark-test", "scale", "salvage", "plot"] {
         let text = folder.run(["help", name]);
         text.fails(0);
         let usage = text.stdout.lines().next().unwrap();
