@@ -1,7 +1,7 @@
 //! Times the proved library beside the reference, in one run.
 //!
 //!     bench [REPEATS]
-//!     bench once RECORDS      labels, reads and salvages one day, for a counter of instructions
+//!     bench once RECORDS      labels, reads, salvages and scales one day, for a counter of instructions
 //!     bench packets RECORDS BYTES     labels one day in packets of so many bytes, for the same
 //!     bench kepler ECCENTRICITY SOLUTIONS     solves Kepler's equation, for the same
 //!     bench root ROOTS        takes square roots, for the same
@@ -231,8 +231,8 @@ fn packets_once(records: usize, size: usize) {
     assert_eq!(files[0], files[1], "the two label files");
 }
 
-/// Labels a day, reads it and salvages it without its trailer, once by the library and once by the reference:
-/// to be run under a counter of instructions.
+/// Labels a day, reads it, salvages it without its trailer and takes its scale figures, once by the library and once
+/// by the reference: to be run under a counter of instructions.
 fn once(records: usize) {
     let day = telemetry(records);
     let mut files = [vec![0; file_bytes(records)], vec![0; file_bytes(records)]];
@@ -248,6 +248,21 @@ fn once(records: usize) {
     black_box(yurdelmiz::salvage(cut, library).expect("enough room"));
     black_box(reference::salvage::salvage(cut, reference).expect("enough room"));
     assert_eq!(files, saved, "what is salvaged");
+    let (library, reference) = (library_figures(&files[0]), reference_figures(&files[0]));
+    assert_eq!(library.to_bytes(), reference.to_bytes(), "the scale figures");
+}
+
+/// The scale figures of one file.
+fn library_figures(file: &[u8]) -> yurdelmiz::Figures {
+    let mut figures = yurdelmiz::Figures::default();
+    figures.add(black_box(file)).expect("a sound file");
+    black_box(figures)
+}
+
+fn reference_figures(file: &[u8]) -> reference::scale::Figures {
+    let mut figures = reference::scale::Figures::default();
+    figures.add(black_box(file), file.len()).expect("a sound file");
+    black_box(figures)
 }
 
 /// The labels of a file that labelling wrote.
@@ -313,6 +328,24 @@ fn salvage(repeats: usize) -> Comparison {
         },
     );
     assert!(outputs.iter().all(|output| *output == file), "what is salvaged");
+    comparison
+}
+
+/// The scale figures of the same file, whose labels are all on the training side.
+fn scale(repeats: usize) -> Comparison {
+    let file = longest_file();
+    let comparison = compare(
+        repeats,
+        &mut || {
+            library_figures(&file);
+        },
+        &mut || {
+            reference_figures(&file);
+        },
+    );
+    let figures = library_figures(&file);
+    assert_eq!(figures.labels as usize, DAY_RECORDS, "training labels");
+    assert_eq!(figures.to_bytes(), reference_figures(&file).to_bytes(), "the scale figures");
     comparison
 }
 
@@ -436,6 +469,7 @@ fn main() {
     print("reading 1,024 labels", &read(repeats));
     print("asking their tail", &dark_test(repeats));
     print("salvaging them", &salvage(repeats));
+    print("scaling by them", &scale(repeats));
     print("labelling 1,024 records", &label(repeats, DAY_RECORDS));
     print("in packets of 100 bytes", &packets(repeats, 100));
     print("in one packet", &packets(repeats, DAY_RECORDS * 16));
