@@ -50,6 +50,9 @@ fn add(bytes: &mut [u8; FIGURES_BYTES], buffer: &[u8], size: usize) -> Answer {
     assert_eq!(told, added, "{bytes:?}");
     if added.is_ok() {
         *bytes = figures.to_bytes();
+    } else {
+        let before = Figures::from_bytes(bytes);
+        assert_eq!(figures.to_bytes(), before.to_bytes(), "a refused file adds nothing");
     }
     assert_eq!(left, *bytes, "the figures differ");
     told
@@ -310,6 +313,9 @@ fn every_size_and_place() {
         let told = add(&mut full.clone(), &buffer, size);
         let number = if size == sound.len() { 15 } else { 12 };
         assert_eq!(told, Err((number, 0)), "{size}");
+    }
+    for beyond in (sound.len() + 1..sound.len() + 50).chain([1 << 32, usize::MAX]) {
+        assert_eq!(add(&mut START.clone(), &sound, beyond), Err((12, 0)), "{beyond}");
     }
     for place in 0..3 {
         let mut broken = sound.clone();
