@@ -10,8 +10,8 @@
  *
  * Status: 0 is accepted. A refusal is its number in document 01's table, below, and then no byte of
  * any slice is changed. Two kinds of status are no refusals of the table, and change nothing either:
- * YURDELMIZ_BAD_BUFFER, where `elements`, `day` or `answer` has another length than this header gives, which
- * is looked at before all else; and the faults of an elements file, from yurdelmiz_elements alone.
+ * YURDELMIZ_BAD_BUFFER, where `elements`, `day`, `figures` or `answer` has another length than this header
+ * gives, which is looked at before all else; and the faults of an elements file, from yurdelmiz_elements alone.
  *
  * No function keeps a pointer or uses anything but its arguments: calls may run in parallel on
  * separate buffers.
@@ -60,12 +60,14 @@ enum {
     YURDELMIZ_LABELS = 13,
     /* Position component beyond +-200,000,000, or Sun component beyond +-2^30. */
     YURDELMIZ_COMPONENT = 14,
+    /* `figures` has 1,000 files or more already, or breaks a bound that figures of label files keep. */
+    YURDELMIZ_FIGURES = 15,
     /* Half the derivative of the mean motion beyond +-1,000,000 (10^-8 revolutions a day squared), or
      * the mean motion less 60 times its size below 20,000,000. */
     YURDELMIZ_MEAN_MOTION_DERIVATIVE = 16,
     /* `day` is closed, or is no state of a day. */
     YURDELMIZ_DAY = 24,
-    /* No refusal of the table: `elements`, `day` or `answer` is not of the length given here. */
+    /* No refusal of the table: `elements`, `day`, `figures` or `answer` is not of the length given here. */
     YURDELMIZ_BAD_BUFFER = 255
 };
 
@@ -91,10 +93,11 @@ enum {
     YURDELMIZ_MALFORMED_TOO_LONG = 109
 };
 
-/* Lengths of `elements`, of `day` and of each `answer`, in bytes. */
+/* Lengths of `elements`, of `day`, of `figures` and of each `answer`, in bytes. */
 enum {
     YURDELMIZ_ELEMENTS_BYTES = 52,
     YURDELMIZ_DAY_BYTES = 89,
+    YURDELMIZ_FIGURES_BYTES = 48,
     YURDELMIZ_KEPLER_BYTES = 8,
     YURDELMIZ_SUN_BYTES = 28,
     YURDELMIZ_POSITION_BYTES = 68,
@@ -118,9 +121,9 @@ enum { YURDELMIZ_TAIL_BYTES = 24 };
      | (uint32_t)(day)[55] << 24)
 
 /* The parts of a result of 64 bits: the status; from yurdelmiz_label, yurdelmiz_add, yurdelmiz_read,
- * yurdelmiz_packet and yurdelmiz_close the place of a refusal, which is the number of the record or label
- * from 0, in yurdelmiz_add that of the record's label in the whole file, in yurdelmiz_packet that of the
- * record in the whole day, and 0 where none applies; from yurdelmiz_elements the line of a
+ * yurdelmiz_scale, yurdelmiz_packet and yurdelmiz_close the place of a refusal, which is the number of the
+ * record or label from 0, in yurdelmiz_add that of the record's label in the whole file, in yurdelmiz_packet
+ * that of the record in the whole day, and 0 where none applies; from yurdelmiz_elements the line of a
  * fault, from 1, and the number from 0 of the element that was due there, in the order of the file, 12
  * behind the last. */
 #define YURDELMIZ_STATUS(result) ((uint32_t)((result) & 0xffffffffu))
@@ -297,6 +300,34 @@ uint64_t yurdelmiz_read(const uint8_t *file, size_t file_len, size_t size,
  */
 uint32_t yurdelmiz_dark_test(const uint8_t *tail, size_t tail_len, uint64_t size,
                              uint8_t *answer, size_t answer_len);
+
+/* Scale figures: what a model's inputs are scaled by, from the training labels of label files alone, one file
+ * after another. From 48 zero bytes on they are the counts, extremes and sums over the training labels of the
+ * files that were accepted. Up to 1,000 files their order does not matter, but for the sign of a zero among the
+ * extremes.
+ *
+ *   figures, 48 bytes; they may be kept, copied and moved between calls. 48 zero bytes are the figures of
+ *   nothing, the start:
+ *     0  u32  files
+ *     4  u32  training labels
+ *     8  u32  dark labels among them
+ *    12  u32  valid readings among them
+ *    16  u32  1 where a least is held, 0 where none is; any number but 0 is taken for held
+ *    20  u32  bits of the least watts; 0 is written where none is held, and what is there is not looked at
+ *    24  u32  1 where a greatest is held, as for the least
+ *    28  u32  bits of the greatest watts
+ *    32  i64  total of the sines of the elevation
+ *    40  u64  total of the squares of those sines, each first divided by 32,768 and cut
+ */
+
+/* Adds the label file in the first `size` bytes of `file` to `figures`. Of equal watts, which the two zeros
+ * are, the earlier stands. Refusals 12 and 13 as yurdelmiz_read gives them, at their places; then 15 at place
+ * 0, where `figures` has 1,000 files or more already, or over 1,024 labels a file, dark labels or valid readings
+ * over the labels, a least or a greatest held where no reading is valid, or missing where one is, or not
+ * finite, or a total over 2^30 a label in size. A refused file adds nothing.
+ */
+uint64_t yurdelmiz_scale(uint8_t *figures, size_t figures_len,
+                         const uint8_t *file, size_t file_len, size_t size);
 
 /* Keeps the labels at the start of `bytes`, which begin with the first label of a file: every whole 24
  * bytes, in order, that keep the field rules, up to the first that do not, or the end, or 1,024 of them.

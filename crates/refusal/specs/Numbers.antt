@@ -31,7 +31,7 @@ numberOf Trailer = 12
 numberOf Labels = 13
 -- a position or Sun component beyond the shade test's range
 numberOf Component = 14
--- scale figures with 1,000 files or more already, or that no files have
+-- scale figures with 1,000 files or more already, or beyond a bound of theirs
 numberOf Figures = 15
 -- half the derivative of the mean motion beyond ±1,000,000, or n less 60 times its size below 20,000,000
 numberOf MeanMotionDerivative = 16

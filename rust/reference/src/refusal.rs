@@ -31,7 +31,7 @@ pub enum Refusal {
     Labels = 13,
     /// Position or Sun component out of range.
     Component = 14,
-    /// Scale figures of 1,000 files already, or that are none of label files.
+    /// Scale figures of 1,000 files already, or beyond a bound of theirs.
     Figures = 15,
     /// Half the mean motion's derivative beyond ±1,000,000, or the mean motion less 60 times its size
     /// below 20,000,000.

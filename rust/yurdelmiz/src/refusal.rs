@@ -36,7 +36,7 @@ pub enum Refusal {
     Labels,
     /// 14: of a position beyond 200,000,000 metres, or of the Sun beyond 2^30, either way.
     Component,
-    /// 15: of 1,000 files already, or none of label files.
+    /// 15: of 1,000 files already, or beyond a bound of theirs.
     Figures,
     /// 16: half of it beyond 1,000,000 units of 10^-8 revolution a day squared either way, or the mean
     /// motion less 60 times its size below 20,000,000 units.
@@ -60,7 +60,7 @@ const TABLE: [(Refusal, u32, &str); 16] = [
     (Refusal::Trailer, 12, "the label file's length and its trailer do not fit"),
     (Refusal::Labels, 13, "a label breaks the rules, or the trailer's counts are not those of the labels"),
     (Refusal::Component, 14, "a position or the Sun's direction is out of range"),
-    (Refusal::Figures, 15, "the figures have 1,000 files already, or are none of label files"),
+    (Refusal::Figures, 15, "the figures have 1,000 files already, or are beyond a bound of theirs"),
     (Refusal::MeanMotionDerivative, 16, "half the mean motion's derivative is beyond 0.01 revolutions a day squared, or brings the mean motion below 0.2 revolutions a day within 30 days of the epoch"),
     (Refusal::Day, 24, "the day is closed, or its state is none of a day"),
 ];

@@ -74,7 +74,7 @@ impl Figures {
     pub const MOST_FILES: u32 = 1_000;
 
     /// Adds a whole label file; refusals 12 and 13 as [`read`](crate::read) gives them, then 15 where there are
-    /// 1,000 files already, or where the figures are none of label files: over 1,024 labels a file, dark labels or
+    /// 1,000 files already, or where the figures are beyond a bound of theirs: over 1,024 labels a file, dark labels or
     /// valid readings over the labels, an extreme that is held where no reading is valid, missing where one is, or
     /// not finite, or a total over 2^30 a label in size.
     ///
@@ -114,8 +114,8 @@ impl Figures {
         bytes
     }
 
-    /// The figures of their bytes. Any bytes can stand there: what is no figures of label files is refused with 15
-    /// when a file is added.
+    /// The figures of their bytes. Any bytes can stand there: what is beyond a bound is refused with 15 when a file
+    /// is added.
     pub fn from_bytes(bytes: &[u8; Figures::SIZE]) -> Figures {
         let extreme = |at: usize| (u32_at(bytes, at) != 0).then(|| f32_at(bytes, at + 4));
         Figures {
