@@ -21,10 +21,10 @@ use Rattle.labelling.specs.Day.{outputAfter}
 use Rattle.labelling.specs.Records.{records, labelAt}
 use Rattle.labelling.specs.declared.Labelling.{Labelling}
 use Rattle.packets.specs.Day.{openingStep}
-use Rattle.packets.specs.Packet.{atHand, completed, nextDay, packetStep, packetOutput}
+use Rattle.packets.specs.Packet.{pending, completed, nextDay, packetStep, packetOutput}
 use Rattle.packets.specs.Closing.{closingStep, closingOutput}
 use Rattle.packets.specs.SoFar.{dayAfter, SoFar}
-use Rattle.packets.specs.Cutting.{Handed, allBytes, dayFrom, AllAccepted, labelsFrom, fileFrom, OneGo}
+use Rattle.packets.specs.Cutting.{Given, allBytes, dayFrom, AllAccepted, labelsFrom, fileFrom, OneGo}
 use Rattle.packets.specs.declared.Day.{Day}
 use Rattle.packets.specs.declared.Outcome.{Outcome}
 use Rattle.packets.specs.declared.Outcome.the-variants.{Accepted, Refused}
@@ -83,18 +83,18 @@ module _ (day packet output : List ℕ) (ended : packetCall day packet output .s
     unfolding dayOf countsIn nextDay
     growth =
         let step = ap (λ (x : Step). x .day .counts .labels) (taken-whole d packet (length output) (taken .0) .step-is) in
-        let number = plus-number (d .counts) (labelAt (d .elements) (atHand d packet)) (completed d packet) in
+        let number = plus-number (d .counts) (labelAt (d .elements) (pending d packet)) (completed d packet) in
         let after = ap (λ (x : Day). x .counts .labels) answer-is in
         omega (arith, step, number, after)
 
 -- ---- packets one after another
 
-pub record Called (day : List ℕ) (hs : List Handed) : Type 0 where
+pub record Called (day : List ℕ) (hs : List Given) : Type 0 where
   pub accepted : AllAccepted (dayOf day) hs
   pub day-is : dayOf (dayCalled day hs) ≡ dayFrom (dayOf day) hs
   pub labels-are : labelsCalled day hs ≡ labelsFrom (dayOf day) hs
 
-called : (el : Elements) (bytes day : List ℕ) (hs : List Handed) → Held el → SoFar el bytes (dayOf day) → AllEnd day hs → Called day hs
+called : (el : Elements) (bytes day : List ℕ) (hs : List Given) → Held el → SoFar el bytes (dayOf day) → AllEnd day hs → Called day hs
 unfolding AllEnd AllAccepted dayCalled dayFrom labelsCalled labelsFrom
 called el bytes day [] held s ends = record { accepted = tt; day-is = refl; labels-are = refl }
 called el bytes day (h ∷ hs) held s ends =
@@ -131,7 +131,7 @@ module _ (elements day : List ℕ) (below : (i : ℕ) → getD elements i 0 < 25
   first : dayOf (openCall elements day .answer) ≡ openingStep (elementsOf elements) .day
   first = ap dayOf (opened .1) ∙ state-back el [] _ (elements-held elements below) (opening-makes el (opened .0))
 
-  module _ (hs : List Handed) (last : List ℕ) (ends : AllEnd (openCall elements day .answer) hs) (closes : closeCall (dayCalled (openCall elements day .answer) hs) last .status ≡ 0) where
+  module _ (hs : List Given) (last : List ℕ) (ends : AllEnd (openCall elements day .answer) hs) (closes : closeCall (dayCalled (openCall elements day .answer) hs) last .status ≡ 0) where
     abbrev bytes : List ℕ
     bytes = dayCalled (openCall elements day .answer) hs
 

@@ -6,13 +6,13 @@ use mathlib.Core.List.{List, [], _∷_, _++_}
 use lib.ListN.{length, getD, take, drop}
 use Rattle.endian.specs.LittleEndian.{le4}
 use Rattle.label.specs.Layout.{labelSize}
-use Rattle.packets.specs.Cutting.{Handed, allBytes}
+use Rattle.packets.specs.Cutting.{Given, allBytes}
 use Rattle.yurdelmiz.specs.Call.{BufferCall}
 use Rattle.yurdelmiz.specs.Calls.{labelCall, readCall, openCall, packetCall, closeCall}
 
 -- ---- calls of yurdelmiz_packet one after another, on the bytes of `day`
 
-abbrev pub takes : List ℕ → Handed → BufferCall
+abbrev pub takes : List ℕ → Given → BufferCall
 takes day h = packetCall day (h .packet) (h .output)
 
 -- YURDELMIZ_DAY_LABELS
@@ -20,17 +20,17 @@ abbrev pub dayLabels : List ℕ → ℕ
 dayLabels day = le4 day 52
 
 -- `day` after them
-unfoldable pub dayCalled : List ℕ → List Handed → List ℕ
+unfoldable pub dayCalled : List ℕ → List Given → List ℕ
 dayCalled day [] = day
 dayCalled day (h ∷ hs) = dayCalled (takes day h .answer) hs
 
 -- each ends with status 0
-unfoldable pub AllEnd : List ℕ → List Handed → Type 0
+unfoldable pub AllEnd : List ℕ → List Given → Type 0
 AllEnd day [] = Unit {0}
 AllEnd day (h ∷ hs) = (takes day h .status ≡ 0) × AllEnd (takes day h .answer) hs
 
 -- the labels written: from the start of each output 24 bytes for each by which YURDELMIZ_DAY_LABELS grows
-unfoldable pub labelsCalled : List ℕ → List Handed → List ℕ
+unfoldable pub labelsCalled : List ℕ → List Given → List ℕ
 labelsCalled day [] = []
 labelsCalled day (h ∷ hs) =
     let after = takes day h .answer in
@@ -47,6 +47,6 @@ pub record LabelledAtOnce (elements telemetry file : List ℕ) : Type 0 where
 -- where the elements are bytes, and each call ends with status 0 (theorem `cut-day`)
 abbrev pub CutDay : Type 0
 CutDay =
-    (elements day : List ℕ) (hs : List Handed) (last : List ℕ) → ((i : ℕ) → getD elements i 0 < 256)
+    (elements day : List ℕ) (hs : List Given) (last : List ℕ) → ((i : ℕ) → getD elements i 0 < 256)
     → let opened = openCall elements day in let closed = closeCall (dayCalled (opened .answer) hs) last in opened .status ≡ 0 → AllEnd (opened .answer) hs → closed .status ≡ 0
     → LabelledAtOnce elements (allBytes hs) (labelsCalled (opened .answer) hs ++ take 24 (closed .buffer))
