@@ -1,4 +1,2 @@
 pub mod Buffers
 pub mod Answers
-pub mod Faults
-pub mod Status

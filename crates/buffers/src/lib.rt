@@ -1,7 +1,6 @@
-// What the buffers of the C interface hold, and its statuses: include/yurdelmiz.h.
+// What the buffers of the C interface hold: include/yurdelmiz.h.
 mod answers;
 mod elements_buffer;
-mod statuses;
 
 pub use answers::write_adding;
 pub use answers::write_anomaly;
@@ -13,6 +12,3 @@ pub use answers::write_salvage;
 pub use answers::write_state;
 pub use answers::write_sun;
 pub use elements_buffer::read_elements;
-pub use statuses::fault_number;
-pub use statuses::fault_place;
-pub use statuses::status_at;

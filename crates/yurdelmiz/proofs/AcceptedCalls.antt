@@ -51,12 +51,12 @@ use Rattle.salvage.specs.declared.Salvage.the-variants as salvage
 use Rattle.salvage.proofs.Written.{kept-says}
 use Rattle.buffers.specs.Answers.{anomalyBytes, stateBytes, elementsBytes, readBytes, addBytes, salvageBytes, notHeld}
 use Rattle.buffers.specs.Buffers.{elementsOf}
-use Rattle.buffers.specs.Faults.{faultNumber, faultPlace}
-use Rattle.buffers.specs.Status.{statusAt}
+use Rattle.statuses.specs.Faults.{faultNumber, faultPlace}
+use Rattle.statuses.specs.Status.{statusAt}
 use Rattle.buffers.proofs.ElementsBack.{elements-back}
-use Rattle.yurdelmiz.specs.Call.{Call, Outcome, refused, given, callOf, BufferCall, BufferOutcome, rejected, written, bufferCallOf}
+use Rattle.statuses.specs.Call.{Call, Outcome, refused, given, callOf, BufferCall, BufferOutcome, rejected, written, bufferCallOf}
 use Rattle.yurdelmiz.specs.Calls.{anomalyOutcome, keplerCall, earthFixedAt, stateOutcome, positionCall, elementsOutcome, elementsCall, dayOutcome, labelCall, labelOutcome, addOutcome, addCall, readOutcome, readCall, darkTestOutcome, darkTestCall, salvageOutcome, salvageCall}
-use Rattle.yurdelmiz.proofs.Endings.{ends-refused, ends-given}
+use Rattle.statuses.proofs.Endings.{ends-refused, ends-given}
 
 -- ---- status 0
 

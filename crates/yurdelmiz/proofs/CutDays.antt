@@ -36,10 +36,10 @@ use Rattle.buffers.specs.Buffers.{elementsOf}
 use Rattle.buffers.proofs.ElementsBack.{elements-held}
 use Rattle.day_buffer.specs.State.{countsIn, dayOf, dayBytes}
 use Rattle.day_buffer.proofs.DaysBack.{day-back}
-use Rattle.yurdelmiz.specs.Call.{Call, Outcome as CallOutcome, callOf, BufferCall}
+use Rattle.statuses.specs.Call.{Call, Outcome as CallOutcome, callOf, BufferCall}
 use Rattle.yurdelmiz.specs.Calls.{labelOutcome, dayOutcome, labelCall, readOutcome, readCall, openOutcome, openCall, stepOutcome, packetCall, closeCall}
 use Rattle.yurdelmiz.specs.CutDay.{takes, dayLabels, dayCalled, AllEnd, labelsCalled, CutDay}
-use Rattle.yurdelmiz.proofs.Endings.{ends-given}
+use Rattle.statuses.proofs.Endings.{ends-given}
 use Rattle.yurdelmiz.proofs.AcceptedCalls.{Ending, accepted, BufferEnding, buffer-accepted}
 
 -- ---- a state in its bytes

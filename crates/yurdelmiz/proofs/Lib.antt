@@ -1,4 +1,3 @@
-pub mod Endings
 pub mod Placed
 pub mod Days
 pub mod Additions

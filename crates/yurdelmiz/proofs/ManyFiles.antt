@@ -17,10 +17,10 @@ use Rattle.scale.proofs.ManyFiles.{sums, made}
 use Rattle.figures_buffer.specs.FigureBytes.{figuresIn, figuresBytes}
 use Rattle.figures_buffer.proofs.StoredFigures.{figures-length}
 use Rattle.figures_buffer.proofs.FiguresBack.{figures-back}
-use Rattle.yurdelmiz.specs.Call.{Call, ended}
+use Rattle.statuses.specs.Call.{Call, ended}
 use Rattle.yurdelmiz.specs.Calls.{scaleOutcome, scaleCall}
 use Rattle.yurdelmiz.specs.ScaledFiles.{scaledBuffer, ScaledFiles}
-use Rattle.yurdelmiz.proofs.Endings.{ends}
+use Rattle.statuses.proofs.Endings.{ends}
 
 start : replicate 48 0 ≡ figuresBytes nothing
 unfolding figuresBytes nothing bytes8 bytes4

@@ -27,10 +27,10 @@ use Rattle.trailer.proofs.Trailers.{size-bounds, trailer-says}
 use Rattle.label_file.proofs.Accepted.{accepted-file}
 use Rattle.label_file.proofs.Tails.{tail-says}
 use Rattle.buffers.specs.Answers.{words, countsBytes, readBytes, notHeld}
-use Rattle.yurdelmiz.specs.Call.{Call, ended}
+use Rattle.statuses.specs.Call.{Call, ended}
 use Rattle.yurdelmiz.specs.Calls.{readOutcome, readCall, darkTestOutcome, darkTestCall}
 use Rattle.yurdelmiz.specs.TailOfFile.{whole, asked, TailOfFile}
-use Rattle.yurdelmiz.proofs.Endings.{ends}
+use Rattle.statuses.proofs.Endings.{ends}
 
 -- ---- the bytes of a read call's answer
 

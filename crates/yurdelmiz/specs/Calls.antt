@@ -51,11 +51,11 @@ use Rattle.packets.specs.declared.Outcome.{Outcome as StepOutcome}
 use Rattle.packets.specs.declared.Outcome.the-variants as step
 use Rattle.buffers.specs.Answers.{anomalyBytes, sunBytes, stateBytes, elementsBytes, readBytes, addBytes, salvageBytes, notHeld}
 use Rattle.buffers.specs.Buffers.{elementsOf}
-use Rattle.buffers.specs.Faults.{faultNumber, faultPlace}
-use Rattle.buffers.specs.Status.{statusAt}
+use Rattle.statuses.specs.Faults.{faultNumber, faultPlace}
+use Rattle.statuses.specs.Status.{statusAt}
 use Rattle.day_buffer.specs.State.{dayOf, dayBytes}
 use Rattle.figures_buffer.specs.FigureBytes.{figuresIn, figuresBytes}
-use Rattle.yurdelmiz.specs.Call.{Call, Outcome, refused, given, callOf, BufferCall, BufferOutcome, rejected, written, bufferCallOf}
+use Rattle.statuses.specs.Call.{Call, Outcome, refused, given, callOf, BufferCall, BufferOutcome, rejected, written, bufferCallOf}
 
 -- ---- yurdelmiz_kepler
 abbrev pub anomalyOutcome : Solution → Outcome

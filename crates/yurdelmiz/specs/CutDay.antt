@@ -7,7 +7,7 @@ use lib.ListN.{length, getD, take, drop}
 use Rattle.endian.specs.LittleEndian.{le4}
 use Rattle.label.specs.Layout.{labelSize}
 use Rattle.packets.specs.Cutting.{Given, allBytes}
-use Rattle.yurdelmiz.specs.Call.{BufferCall}
+use Rattle.statuses.specs.Call.{BufferCall}
 use Rattle.yurdelmiz.specs.Calls.{labelCall, readCall, openCall, packetCall, closeCall}
 
 -- ---- calls of yurdelmiz_packet one after another, on the bytes of `day`

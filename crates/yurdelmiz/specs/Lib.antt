@@ -1,4 +1,3 @@
-pub mod Call
 pub mod Calls
 pub mod TailOfFile
 pub mod CutDay

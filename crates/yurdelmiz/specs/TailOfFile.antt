@@ -7,7 +7,7 @@ use lib.ListN.{length}
 use Rattle.endian.specs.LittleEndian.{le4, bytes4}
 use Rattle.label_file.specs.Tail.{tailIn}
 use Rattle.buffers.specs.Answers.{notHeld}
-use Rattle.yurdelmiz.specs.Call.{Call}
+use Rattle.statuses.specs.Call.{Call}
 use Rattle.yurdelmiz.specs.Calls.{readCall, darkTestCall}
 
 -- a file, read whole

@@ -135,8 +135,8 @@ pub extern "C" fn yurdelmiz_elements(text: &[u8], answer: &mut [u8]) -> u64
     let parsed = elements_file::parse(text);
     match parsed {
         Parsed::Malformed(line, element, fault) => {
-            let number = buffers::fault_number(fault);
-            buffers::status_at(number, buffers::fault_place(line, element))
+            let number = statuses::fault_number(fault);
+            statuses::status_at(number, statuses::fault_place(line, element))
         }
         Parsed::Whole(elements) => {
             buffers::write_elements(answer, 0, elements);
@@ -154,7 +154,7 @@ pub extern "C" fn yurdelmiz_label(elements: &[u8], telemetry: &[u8], output: &mu
     }
     let labelled = labelling::label_day(buffers::read_elements(elements), telemetry, output);
     match labelled {
-        Labelling::Refused(refusal, place) => buffers::status_at(refusal.number(), place),
+        Labelling::Refused(refusal, place) => statuses::status_at(refusal.number(), place),
         Labelling::Labelled(_, _) => 0,
     }
 }
@@ -177,7 +177,7 @@ pub extern "C" fn yurdelmiz_add(
     }
     let added = labelling::add(buffers::read_elements(elements), buffer, size, telemetry);
     match added {
-        Labelling::Refused(refusal, place) => buffers::status_at(refusal.number(), place),
+        Labelling::Refused(refusal, place) => statuses::status_at(refusal.number(), place),
         Labelling::Labelled(counts, end) => {
             buffers::write_adding(answer, counts, end);
             0
@@ -194,7 +194,7 @@ pub extern "C" fn yurdelmiz_read(file: &[u8], size: usize, answer: &mut [u8]) ->
     }
     let reading = label_file::read(file, size);
     match reading {
-        FileReading::Refused(refusal, place) => buffers::status_at(refusal.number(), place),
+        FileReading::Refused(refusal, place) => statuses::status_at(refusal.number(), place),
         FileReading::Accepted(form, counts) => {
             buffers::write_reading(answer, form, counts);
             0
@@ -233,7 +233,7 @@ pub extern "C" fn yurdelmiz_scale(figures: &mut [u8], file: &[u8], size: usize) 
     let before = figures_buffer::read_figures(figures);
     let scaled = scale::add_file(before, file, size);
     match scaled {
-        Scaling::Refused(refusal, place) => buffers::status_at(refusal.number(), place),
+        Scaling::Refused(refusal, place) => statuses::status_at(refusal.number(), place),
         Scaling::Added(next) => {
             figures_buffer::write_figures(figures, next);
             0
@@ -291,7 +291,7 @@ pub extern "C" fn yurdelmiz_packet(day: &mut [u8], packet: &[u8], output: &mut [
     let step = packets::take_packet(before, packet, output);
     let outcome = step.outcome;
     match outcome {
-        Outcome::Refused(refusal, place) => buffers::status_at(refusal.number(), place),
+        Outcome::Refused(refusal, place) => statuses::status_at(refusal.number(), place),
         Outcome::Accepted => {
             let next = step.day;
             day_buffer::write_day(day, next);
@@ -311,7 +311,7 @@ pub extern "C" fn yurdelmiz_close(day: &mut [u8], output: &mut [u8]) -> u64
     let step = packets::close_day(before, output);
     let outcome = step.outcome;
     match outcome {
-        Outcome::Refused(refusal, place) => buffers::status_at(refusal.number(), place),
+        Outcome::Refused(refusal, place) => statuses::status_at(refusal.number(), place),
         Outcome::Accepted => {
             let closed = step.day;
             day_buffer::write_day(day, closed);

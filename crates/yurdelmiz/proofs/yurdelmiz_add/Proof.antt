@@ -8,7 +8,7 @@ use denote.Ref.{now}
 use Rattle.labelling.specs.Contract.{AddedTo}
 use Rattle.buffers.specs.Buffers.{elementsOf}
 use Rattle.yurdelmiz.specs.Calls.{addCall}
-use Rattle.yurdelmiz.proofs.Endings.{bad-buffers, ends-rejected, ends-written}
+use Rattle.statuses.proofs.Endings.{bad-buffers, ends-rejected, ends-written}
 use Rattle.yurdelmiz.proofs.Additions.{add-outcome, unchanged}
 use borrow.Author.Needs.{needs}
 use Rattle.yurdelmiz.proofs.yurdelmiz_add.Statement.{statement}

@@ -5,7 +5,7 @@ use Rattle.packets.specs.Contract.{DayClosed}
 use Rattle.day_buffer.specs.State.{dayOf}
 use Rattle.yurdelmiz.specs.Calls.{closeCall}
 use Rattle.yurdelmiz.proofs.DaySteps.{step-outcome, unchanged}
-use Rattle.yurdelmiz.proofs.Endings.{bad-buffers, ends-rejected, ends-written}
+use Rattle.statuses.proofs.Endings.{bad-buffers, ends-rejected, ends-written}
 use borrow.Author.Needs.{needs}
 use Rattle.yurdelmiz.proofs.yurdelmiz_close.Statement.{statement}
 use Rattle.yurdelmiz.proofs.yurdelmiz_close.Tie as tie

@@ -3,7 +3,7 @@ use mathlib.Core.Path.{sym, ap, _∙_}
 use borrow.Author.Tests.{eq-eqb, ne-eqb}
 use Rattle.buffers.specs.Answers.{notHeld}
 use Rattle.yurdelmiz.specs.Calls.{darkTestOutcome, darkTestCall}
-use Rattle.yurdelmiz.proofs.Endings.{bad-buffer, ends-refused, ends-given}
+use Rattle.statuses.proofs.Endings.{bad-buffer, ends-refused, ends-given}
 use borrow.Author.Needs.{needs}
 use Rattle.yurdelmiz.proofs.yurdelmiz_dark_test.Statement.{statement}
 use Rattle.yurdelmiz.proofs.yurdelmiz_dark_test.Tie as tie

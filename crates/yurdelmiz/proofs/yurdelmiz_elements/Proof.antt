@@ -8,7 +8,7 @@ use Rattle.endian.specs.LittleEndian.{bytes4, bytes8}
 use Rattle.endian.proofs.Stores.{over-all}
 use Rattle.buffers.specs.Answers.{words, elementsBytes}
 use Rattle.yurdelmiz.specs.Calls.{elementsOutcome, elementsCall}
-use Rattle.yurdelmiz.proofs.Endings.{bad-buffer, ends-refused, ends-given}
+use Rattle.statuses.proofs.Endings.{bad-buffer, ends-refused, ends-given}
 use borrow.Author.Needs.{needs}
 use Rattle.yurdelmiz.proofs.yurdelmiz_elements.Statement.{statement}
 use Rattle.yurdelmiz.proofs.yurdelmiz_elements.Tie as tie

@@ -2,7 +2,7 @@
 use mathlib.Core.Path.{sym, ap, _∙_}
 use borrow.Author.Tests.{eq-eqb, ne-eqb}
 use Rattle.yurdelmiz.specs.Calls.{anomalyOutcome, keplerCall}
-use Rattle.yurdelmiz.proofs.Endings.{bad-buffer, ends-refused, ends-given}
+use Rattle.statuses.proofs.Endings.{bad-buffer, ends-refused, ends-given}
 use borrow.Author.Needs.{needs}
 use Rattle.yurdelmiz.proofs.yurdelmiz_kepler.Statement.{statement}
 use Rattle.yurdelmiz.proofs.yurdelmiz_kepler.Tie as tie

@@ -4,7 +4,7 @@ use denote.Ref.{now}
 use Rattle.labelling.specs.Contract.{LabelledDay}
 use Rattle.buffers.specs.Buffers.{elementsOf}
 use Rattle.yurdelmiz.specs.Calls.{labelCall}
-use Rattle.yurdelmiz.proofs.Endings.{bad-buffer, ends-refused, ends-given}
+use Rattle.statuses.proofs.Endings.{bad-buffer, ends-refused, ends-given}
 use Rattle.yurdelmiz.proofs.Days.{day-outcome, unchanged}
 use borrow.Author.Needs.{needs}
 use Rattle.yurdelmiz.proofs.yurdelmiz_label.Statement.{statement}

@@ -9,7 +9,7 @@ use Rattle.packets.specs.Day.{openingStep}
 use Rattle.packets.specs.declared.Outcome.{Outcome}
 use Rattle.buffers.specs.Buffers.{elementsOf}
 use Rattle.yurdelmiz.specs.Calls.{openOutcome, openCall}
-use Rattle.yurdelmiz.proofs.Endings.{bad-buffer, ends-refused, ends-given}
+use Rattle.statuses.proofs.Endings.{bad-buffer, ends-refused, ends-given}
 use borrow.Author.Needs.{needs}
 use Rattle.yurdelmiz.proofs.yurdelmiz_open.Statement.{statement}
 use Rattle.yurdelmiz.proofs.yurdelmiz_open.Tie as tie

@@ -18,7 +18,7 @@ use Rattle.sun.specs.declared.Sun.{Sun}
 use Rattle.buffers.specs.Answers.{stateBytes}
 use Rattle.buffers.specs.Buffers.{elementsOf}
 use Rattle.yurdelmiz.specs.Calls.{stateOutcome, earthFixedAt, positionCall}
-use Rattle.yurdelmiz.proofs.Endings.{bad-buffer, ends-refused, ends-given}
+use Rattle.statuses.proofs.Endings.{bad-buffer, ends-refused, ends-given}
 use Rattle.yurdelmiz.proofs.Placed.{time-in-range, radius-small, turnable}
 use denote.Ref.{now}
 use borrow.Author.Needs.{needs}

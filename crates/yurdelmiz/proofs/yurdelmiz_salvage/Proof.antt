@@ -1,7 +1,7 @@
 -- `yurdelmiz::yurdelmiz_salvage` meets its contract. Assumes nothing.
 use borrow.Author.Tests.{eq-eqb, ne-eqb}
 use Rattle.yurdelmiz.specs.Calls.{salvageCall}
-use Rattle.yurdelmiz.proofs.Endings.{bad-buffers, ends-rejected, ends-written}
+use Rattle.statuses.proofs.Endings.{bad-buffers, ends-rejected, ends-written}
 use Rattle.yurdelmiz.proofs.Salvages.{salvage-outcome, unchanged}
 use borrow.Author.Needs.{needs}
 use Rattle.yurdelmiz.proofs.yurdelmiz_salvage.Statement.{statement}

@@ -5,7 +5,7 @@ use denote.Ref.{now}
 use Rattle.scale.specs.Step.{scaling}
 use Rattle.figures_buffer.specs.FigureBytes.{figuresIn}
 use Rattle.yurdelmiz.specs.Calls.{scaleOutcome, scaleCall}
-use Rattle.yurdelmiz.proofs.Endings.{bad-buffer, ends-refused, ends-given}
+use Rattle.statuses.proofs.Endings.{bad-buffer, ends-refused, ends-given}
 use borrow.Author.Needs.{needs}
 use Rattle.yurdelmiz.proofs.yurdelmiz_scale.Statement.{statement}
 use Rattle.yurdelmiz.proofs.yurdelmiz_scale.Tie as tie

@@ -2,7 +2,7 @@
 use mathlib.Core.Path.{_≡_, sym, ap, _∙_, subst}
 use borrow.Author.Tests.{eq-eqb, ne-eqb}
 use Rattle.yurdelmiz.specs.Calls.{sunOutcome, sunCall}
-use Rattle.yurdelmiz.proofs.Endings.{bad-buffer, ends-refused, ends-given}
+use Rattle.statuses.proofs.Endings.{bad-buffer, ends-refused, ends-given}
 use mir.Facts.{toZ-ofZ}
 use Rattle.sun.specs.Sun.{sunAnswer}
 use Rattle.sun.specs.Contract.{DirectionWithinOne}

@@ -5,15 +5,6 @@ use borrow.Author.Needs.{needs}
 use Rattle.extreme.proofs.Extreme.with.Statement.{statement}
 use Rattle.extreme.proofs.Extreme.with.Tie as tie
 
-enum-told : tie.Need-enum-told
-enum-told c = search needs
-
-enum-known-self : tie.Need-enum-known-self
-enum-known-self c = search needs
-
-goes-ahead-requires : tie.Need-goes-ahead-requires
-goes-ahead-requires c κs = search needs
-
 returns : tie.Need-returns
 returns c = rw (c .enum-told .given .1)
 
@@ -24,4 +15,4 @@ returns-3 : tie.Need-returns-3
 returns-3 c = rw (c .before .before .before .self .given .1, sym (c .before .goes-ahead .ensures) ∙ c .if1 .left)
 
 pub with-spec : {M : Type 1} → statement M
-with-spec = tie.close (tie.spec enum-told enum-known-self goes-ahead-requires returns returns-2 returns-3)
+with-spec = tie.close (tie.spec (λ c. search needs) (λ c. search needs) (λ c κs. search needs) returns returns-2 returns-3)

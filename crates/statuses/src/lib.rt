@@ -1,8 +1,9 @@
-// The statuses that are no refusal's number alone: faults of an elements file, and a number with a place.
+// The statuses of the C interface that are no refusal's number alone, faults of an elements file and a number
+// with a place; and, in specs/, how a call ends: include/yurdelmiz.h.
 ghost use mathlib.Core.Path.{_≡_};
 ghost use Prim.Native.Nat.{_≤_};
-ghost use Rattle.buffers.specs.Status.{statusAt};
-ghost use Rattle.buffers.specs.Faults.{faultNumber, faultPlace};
+ghost use Rattle.statuses.specs.Status.{statusAt};
+ghost use Rattle.statuses.specs.Faults.{faultNumber, faultPlace};
 use elements_file::Fault;
 
 pub fn fault_number(fault: Fault) -> u32

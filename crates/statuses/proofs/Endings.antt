@@ -3,7 +3,7 @@ use mathlib.Core.Path.{_≡_}
 use mathlib.Core.Bool.{Bool, true, false}
 use Prim.Native.Nat.{ℕ}
 use mathlib.Core.List.{List}
-use Rattle.yurdelmiz.specs.Call.{Call, Outcome, refused, given, ended, callOf, BufferCall, BufferOutcome, rejected, written, bufferCallOf}
+use Rattle.statuses.specs.Call.{Call, Outcome, refused, given, ended, callOf, BufferCall, BufferOutcome, rejected, written, bufferCallOf}
 
 module _ (lengths : Bool) (outcome : Outcome) (buffer : List ℕ) where
   -- a length is not the header's

@@ -1,0 +1,3 @@
+pub mod Status
+pub mod Faults
+pub mod Call
