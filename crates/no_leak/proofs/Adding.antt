@@ -1,0 +1,68 @@
+-- Alike telemetry that is added to the files of alike telemetry: adding is labelling at once. Assumes nothing.
+use mathlib.Core.Path.{_≡_, refl, sym, _∙_}
+use mathlib.Core.List.{List, _++_}
+use Prim.Native.Nat.{ℕ, _+_}
+use native.Mathlib.Omega.{arith}
+use lib.ListN.{length, drop, length-append}
+use Rattle.elements.specs.declared.Elements.{Elements}
+use Rattle.trailer.specs.Trailer.{distanceBack}
+use Rattle.trailer.specs.declared.Counts.{Counts}
+use Rattle.trailer.specs.declared.Form.{Form}
+use Rattle.label_file.proofs.RoundTrip.{file-length}
+use Rattle.labelling.specs.Records.{records, labelAt}
+use Rattle.labelling.specs.Day.{labelling, outputAfter}
+use Rattle.labelling.specs.Continuing.{moved, Continued}
+use Rattle.labelling.specs.declared.Labelling.{Labelling}
+use Rattle.labelling.specs.declared.Labelling.the-variants.{Labelled, Refused}
+use Rattle.labelling.proofs.Continuing.{adding-continues}
+use Rattle.labelling.proofs.PassedRecords.{day-passed}
+use Rattle.labelling.proofs.WrittenFile.{output-is}
+use Rattle.no_leak.specs.Alike.{AlikeDays}
+use Rattle.no_leak.specs.Files.{FilesBy}
+use Rattle.no_leak.specs.Adding.{fileFor, Adding}
+use Rattle.no_leak.proofs.AlikeRecords.{same-number, joined-alike}
+use Rattle.no_leak.proofs.AtOnce.{same-answer, made-files}
+
+module _ (el : Elements) (one two more more' front front' rest rest' : List ℕ) (form : Form) (room size : ℕ) (counts : Counts) (alike : AlikeDays el one two)
+    (labelled : labelling el one room ≡ Labelled counts size) (alike-more : AlikeDays el more more') (as-much : length front ≡ length front') (as-much-behind : length rest ≡ length rest') where
+  abbrev out : List ℕ
+  out = fileFor el form one ++ rest
+
+  abbrev out' : List ℕ
+  out' = fileFor el form two ++ rest'
+
+  all : AlikeDays el (one ++ more) (two ++ more')
+  all = joined-alike el one two more more' alike alike-more (day-passed el one room counts size labelled .records .whole)
+
+  same-room : length (fileFor el form one ++ rest) ≡ length (fileFor el form two ++ rest')
+  same-room =
+      let n = same-number el one two alike in
+      omega (arith, length-append (fileFor el form one) rest, length-append (fileFor el form two) rest', file-length form (labelAt el one) (records one), file-length form (labelAt el two) (records two), n)
+
+  pub continued : Continued el one more front (fileFor el form one) rest
+  continued = adding-continues el one more front rest form room size counts labelled
+
+  pub continued' : Continued el two more' front' (fileFor el form two) rest'
+  continued' = adding-continues el two more' front' rest' form room size counts (sym (same-answer el one two alike refl) ∙ labelled)
+
+  pub answer : moved (length front) (labelling el (one ++ more) (length (fileFor el form one ++ rest))) ≡ moved (length front') (labelling el (two ++ more') (length (fileFor el form two ++ rest')))
+  answer = λ i. moved (as-much i) (same-answer el (one ++ more) (two ++ more') all same-room i)
+
+  pub files : (a : Labelling) → labelling el (one ++ more) (length (fileFor el form one ++ rest)) ≡ a
+      → FilesBy (moved (length front) a) (length front) (front ++ outputAfter el (one ++ more) (fileFor el form one ++ rest)) (front' ++ outputAfter el (two ++ more') (fileFor el form two ++ rest'))
+  files (Refused refusal place) e = tt
+  files (Labelled c end) e =
+      let e' = sym (same-answer el (one ++ more) (two ++ more') all same-room) ∙ e in
+      rw (output-is el (one ++ more) out c end e, output-is el (two ++ more') out' c end e')
+      (made-files el (one ++ more) (two ++ more') all (length out) c end e front front' (drop end out) (drop end out') (length front) (length front + end) refl (sym as-much) refl)
+
+pub added : Adding
+added el one two more more' front front' rest rest' form room size counts alike labelled alike-more as-much as-much-behind =
+    let c = continued el one two more more' front front' rest rest' form room size counts alike labelled alike-more as-much as-much-behind in
+    let c' = continued' el one two more more' front front' rest rest' form room size counts alike labelled alike-more as-much as-much-behind in
+    let same = answer el one two more more' front front' rest rest' form room size counts alike labelled alike-more as-much as-much-behind in
+    let by = files el one two more more' front front' rest rest' form room size counts alike labelled alike-more as-much as-much-behind in
+    record {
+      same-answer = c .answer-is ∙ same ∙ sym (c' .answer-is);
+      same-files = rw (c .answer-is, c .buffer-is, c' .buffer-is) (by _ refl);
+    }

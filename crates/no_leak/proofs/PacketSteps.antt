@@ -1,0 +1,161 @@
+-- Alike days in packets that are cut alike: one packet, closing, packets one after another, and the finished files. Assumes nothing.
+use mathlib.Core.Path.{_≡_, refl, sym, ap, subst, _∙_}
+use mathlib.Core.Bool.{Bool, true, false, not, _&&_, cond}
+use mathlib.Core.List.{List, [], _∷_, _++_, append-assoc, append-nil}
+use Prim.Native.Nat.{ℕ, _+_, _*_, _<_}
+use native.Mathlib.Omega.{arith}
+use lib.Dec.{eqb, leb, ltb}
+use lib.ListN.{length, take, drop, replicate, length-append, length-drop}
+use lib.Seq.{take-at, drop-length}
+use Rattle.refusal.specs.declared.Refusal.the-variants as refusal
+use Rattle.elements.specs.Elements.{checked}
+use Rattle.elements.specs.declared.Elements.{Elements}
+use Rattle.elements.specs.declared.Verdict.the-variants.{Passed}
+use Rattle.telemetry.specs.Records.{recordSize}
+use Rattle.label.specs.Layout.{labelSize}
+use Rattle.trailer.specs.Sequence.{leading}
+use Rattle.trailer.specs.Counts.{countsOf, _plus_}
+use Rattle.trailer.specs.Trailer.{trailerSize, distanceBack, trailerBytes, countsAllowed}
+use Rattle.trailer.specs.declared.Counts.{Counts}
+use Rattle.trailer.specs.declared.Form.the-variants.{Bytes24}
+use Rattle.trailer.proofs.Sequences.{leading-holds}
+use Rattle.trailer.proofs.Trailers.{trailer-length}
+use Rattle.label_file.specs.File.{bodyOf}
+use Rattle.labelling.specs.Records.{records, labelAt, passesAt}
+use Rattle.labelling.specs.Day.{outputAfter}
+use Rattle.labelling.proofs.WrittenFile.{end-is}
+use Rattle.packets.specs.declared.Day.{Day}
+use Rattle.packets.specs.declared.Outcome.{Outcome}
+use Rattle.packets.specs.declared.Outcome.the-variants.{Accepted}
+use Rattle.packets.specs.declared.Step.{Step}
+use Rattle.packets.specs.Day.{openingStep, isPassed, dayAllowed}
+use Rattle.packets.specs.Packet.{pending, completed, unfinished, padded, nextDay, refusedStep, packetStep, packetLabels, packetOutput, outputBy}
+use Rattle.packets.specs.Closing.{closedDay, closingStep, closingOutput}
+use Rattle.packets.specs.SoFar.{dayAfter, SoFar}
+use Rattle.packets.specs.Cutting.{Given, allBytes, dayBehind, dayFrom, AllAccepted, fileFrom, OneGo}
+use Rattle.packets.proofs.AllowedDays.{allowed-says}
+use Rattle.packets.proofs.CutBytes.{joined-is}
+use Rattle.packets.proofs.EveryCut.{every-cut}
+use Rattle.packets.proofs.Steps.{TakenWhole, taken-whole}
+use Rattle.packets.proofs.TakenSoFar.{opening-makes, packet-keeps}
+use Rattle.no_leak.specs.Alike.{AlikeDays}
+use Rattle.no_leak.specs.Files.{SameTraining, SameFiles}
+use Rattle.no_leak.specs.Packets.{AlikeStates, SameSizes, outcomeOf, SamePacket, OnePacket, SameClosing, CutAlike, PacketByPacket, SameDay, NoLeakIn, InPackets}
+use Rattle.no_leak.proofs.AlikeRecords.{same-number, same-leading, same-counts, rules-one, rules-two, same-training, pending-alike}
+use Rattle.no_leak.proofs.FilesInBuffers.{parts-alike}
+use Rattle.no_leak.proofs.AtOnce.{at-once}
+
+-- ---- states
+
+pub states-refl : (d : Day) → AlikeStates d d
+states-refl d = record { same-elements = refl; same-counts = refl; same-closed = refl; same-have = refl }
+
+allowed-alike : (d e : Day) → AlikeStates d e → dayAllowed d ≡ dayAllowed e
+unfolding dayAllowed
+allowed-alike d e s =
+    λ i. not (s .same-closed i) && isPassed (checked (s .same-elements i)) && leb (s .same-have i) 15 && leb (s .same-counts i .labels) 1_024 && countsAllowed (s .same-counts i)
+
+closed-alike : (d e : Day) → AlikeStates d e → AlikeStates (closedDay d) (closedDay e)
+unfolding closedDay
+closed-alike d e s = record { same-elements = s .same-elements; same-counts = s .same-counts; same-closed = refl; same-have = s .same-have }
+
+-- 24 does not look at the bytes held
+allowed-elements : (d : Day) → dayAllowed d ≡ true → checked (d .elements) ≡ Passed
+unfolding dayAllowed
+allowed-elements d e =
+    allowed-says (record { elements = d .elements; counts = d .counts; closed = d .closed; have = d .have; held = replicate 15 0 }) refl e .elements
+
+-- ---- a step by the tests of its refusals, in their order
+
+pub record AlikeSteps (s t : Step) : Type 0 where
+  pub same-outcome : s .outcome ≡ t .outcome
+  pub alike-days : AlikeStates (s .day) (t .day)
+
+abbrev stepBy : Bool → Bool → Bool → Bool → ℕ → Day → Day → Step
+stepBy state many short late place d next =
+    cond state (refusedStep d refusal.Day 0)
+    (cond many (refusedStep d refusal.TelemetryLength 0)
+    (cond short (refusedStep d refusal.OutputLength 0)
+    (cond late (refusedStep d refusal.Time place) (record { day = next; outcome = Accepted }))))
+
+steps-alike : (state many short late : Bool) (place : ℕ) (d e next next' : Day) → AlikeStates d e → AlikeStates next next' → AlikeSteps (stepBy state many short late place d next) (stepBy state many short late place e next')
+steps-alike true many short late place d e next next' before behind = record { same-outcome = refl; alike-days = before }
+steps-alike false true short late place d e next next' before behind = record { same-outcome = refl; alike-days = before }
+steps-alike false false true late place d e next next' before behind = record { same-outcome = refl; alike-days = before }
+steps-alike false false false true place d e next next' before behind = record { same-outcome = refl; alike-days = before }
+steps-alike false false false false place d e next next' before behind = record { same-outcome = refl; alike-days = behind }
+
+-- ---- one packet
+
+module _ (d e : Day) (g h : Given) (states : AlikeStates d e) (sizes : SameSizes g h) (alike : AlikeDays (d .elements) (pending d (g .packet)) (pending e (h .packet))) where
+  abbrev one : List ℕ
+  one = pending d (g .packet)
+
+  abbrev two : List ℕ
+  two = pending e (h .packet)
+
+  number : completed d (g .packet) ≡ completed e (h .packet)
+  number = same-number (d .elements) one two alike
+
+  passed : leading (passesAt (d .elements) (pending d (g .packet))) (completed d (g .packet)) ≡ leading (passesAt (e .elements) (pending e (h .packet))) (completed e (h .packet))
+  passed = same-leading (d .elements) one two alike ∙ ap (λ (el : Elements). leading (passesAt el two) (records two)) (states .same-elements)
+
+  next : AlikeStates (nextDay d (g .packet)) (nextDay e (h .packet))
+  unfolding nextDay
+  next =
+      let counted = same-counts (d .elements) one two alike ∙ ap (λ (el : Elements). countsOf (labelAt el two) (records two)) (states .same-elements) in
+      record {
+        same-elements = states .same-elements;
+        same-counts = λ i. states .same-counts i plus counted i;
+        same-closed = refl;
+        same-have = omega (arith, length-drop (recordSize * records one) one, length-drop (recordSize * records two) two, alike .same-length);
+      }
+
+  step : AlikeSteps (packetStep d (g .packet) (length (g .output))) (packetStep e (h .packet) (length (h .output)))
+  unfolding packetStep
+  step =
+      let n = completed d (g .packet) in
+      let before = d .counts .labels in
+      let lead = leading (passesAt (d .elements) one) n in
+      let allowed = allowed-alike d e states in
+      subst (AlikeSteps (packetStep d (g .packet) (length (g .output))))
+      (λ i. stepBy (not (allowed i)) (ltb 1_024 (states .same-counts i .labels + number i)) (ltb (sizes .same-room i) (labelSize * number i)) (ltb (passed i) (number i)) (states .same-counts i .labels + passed i) e (nextDay e (h .packet)))
+      (steps-alike (not (dayAllowed d)) (ltb 1_024 (before + n)) (ltb (length (g .output)) (labelSize * n)) (ltb lead n) (before + lead) d e (nextDay d (g .packet)) (nextDay e (h .packet)) states next)
+
+  training-labels : outcomeOf d g ≡ Accepted → SameTraining (packetOutput d (g .packet) (g .output)) (packetOutput e (h .packet) (h .output)) (completed d (g .packet))
+  training-labels accepted =
+      let el = d .elements in
+      let n = completed d (g .packet) in
+      let whole = taken-whole d (g .packet) (length (g .output)) accepted in
+      let c = allowed-elements d (whole .allowed) in
+      let passing : (k : ℕ) → k < n → passesAt el one k ≡ true = λ k b. leading-holds (passesAt el one) n k (omega (arith, whole .all)) in
+      let written : packetOutput d (g .packet) (g .output) ≡ bodyOf (labelAt el one) n ++ drop (length (packetLabels d (g .packet))) (g .output) = ap (λ (o : Outcome). outputBy o (packetLabels d (g .packet)) (g .output)) accepted in
+      let written' : packetOutput e (h .packet) (h .output) ≡ bodyOf (labelAt el two) n ++ drop (length (packetLabels e (h .packet))) (h .output) =
+      ap (λ (o : Outcome). outputBy o (packetLabels e (h .packet)) (h .output)) (sym (step .same-outcome) ∙ accepted)
+      ∙ (λ i. bodyOf (labelAt (sym (states .same-elements) i) two) (sym number i) ++ drop (length (packetLabels e (h .packet))) (h .output)) in
+      rw (written, written') (parts-alike (labelAt el one) (labelAt el two) n (rules-one el one two alike c passing) (rules-two el one two alike c passing) (same-training el one two alike c passing) _ _)
+
+pub one-packet : OnePacket
+one-packet d e g h states sizes alike =
+    record {
+      same-outcome = step d e g h states sizes alike .same-outcome;
+      same-number = number d e g h states sizes alike;
+      same-training = training-labels d e g h states sizes alike;
+      alike-states = step d e g h states sizes alike .alike-days;
+    }
+
+-- ---- closing
+
+pub closing-alike : (d e : Day) (last last' : List ℕ) → AlikeStates d e → length last ≡ length last' → SameClosing d e last last'
+unfolding closingStep
+closing-alike d e last last' s same-room =
+    let allowed = allowed-alike d e s in
+    let same : closingStep d (length last) .outcome ≡ closingStep e (length last') .outcome =
+    steps-alike (not (dayAllowed d)) (not (eqb (d .have) 0)) (ltb (length last) (trailerSize Bytes24)) false 0 d e (closedDay d) (closedDay e) s (closed-alike d e s) .same-outcome
+    ∙ (λ i. stepBy (not (allowed i)) (not (eqb (s .same-have i) 0)) (ltb (same-room i) (trailerSize Bytes24)) false 0 e (closedDay e) .outcome) in
+    let trailer : (x : Day) (l : List ℕ) → closingStep x (length l) .outcome ≡ Accepted → take (trailerSize Bytes24) (closingOutput x l) ≡ trailerBytes Bytes24 (x .counts) =
+    λ x l a. ap (λ (o : Outcome). take (trailerSize Bytes24) (outputBy o (trailerBytes Bytes24 (x .counts)) l)) a ∙ take-at (trailerBytes Bytes24 (x .counts)) _ (trailerSize Bytes24) (trailer-length Bytes24 (x .counts)) in
+    record {
+      same-outcome = same;
+      same-trailer = λ a. trailer d last a ∙ ap (trailerBytes Bytes24) (s .same-counts) ∙ sym (trailer e last' (sym same ∙ a));
+    }

@@ -1,0 +1,5 @@
+pub mod Alike
+pub mod Files
+pub mod AtOnce
+pub mod Adding
+pub mod Packets
