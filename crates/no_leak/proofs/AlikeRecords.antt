@@ -102,8 +102,8 @@ module _ (xs : List ℕ) (n m : ℕ) where
   record-part k h =
       sample-same (take m (drop (recordSize * n) xs)) xs (recordSize * k) (recordSize * (n + k))
       (λ i b.
-        let at : recordSize * n + (recordSize * k + i) ≡ recordSize * (n + k) + i = omega arith in
-        getD-take m (drop (recordSize * n) xs) (recordSize * k + i) 0 (omega arith) ∙ getD-drop (recordSize * n) xs (recordSize * k + i) 0 ∙ ap (λ (j : ℕ). getD xs j 0) at)
+      let at : recordSize * n + (recordSize * k + i) ≡ recordSize * (n + k) + i = omega arith in
+      getD-take m (drop (recordSize * n) xs) (recordSize * k + i) 0 (omega arith) ∙ getD-drop (recordSize * n) xs (recordSize * k + i) 0 ∙ ap (λ (j : ℕ). getD xs j 0) at)
 
   part-length : recordSize * n + m ≤ length xs → length (take m (drop (recordSize * n) xs)) ≡ m
   part-length h = length-take-le m (drop (recordSize * n) xs) (omega (arith, length-drop (recordSize * n) xs))
@@ -147,14 +147,14 @@ module _ (el : Elements) (one two more more' : List ℕ) (alike : AlikeDays el o
       record {
         same-length = omega (arith, length-append one more, length-append two more', alike .same-length, alike' .same-length);
         alike-records = λ k b.
-          dite (decLe (records one) k)
-          (λ (h : records one ≤ k).
+            dite (decLe (records one) k)
+            (λ (h : records one ≤ k).
             let j = k - records one in
             let second : records one + j ≡ k = omega arith in
             let at : recordAt (one ++ more) k ≡ recordAt more j = ap (recordAt (one ++ more)) (sym second) ∙ record-second one more whole j in
             let at' : recordAt (two ++ more') k ≡ recordAt more' j = ap (recordAt (two ++ more')) (sym (ap (λ (i : ℕ). i + j) (sym n) ∙ second)) ∙ record-second two more' whole' j in
             rw (at, at') (alike' .alike-records j (omega (arith, length-append one more))))
-          (λ h.
+            (λ h.
             let first : k < records one = omega (arith, h) in
             rw (record-first one more whole k first, record-first two more' whole' k (omega (arith, n))) (alike .alike-records k first));
       }

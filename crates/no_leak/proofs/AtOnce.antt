@@ -36,12 +36,12 @@ module _ (el : Elements) (one two : List ℕ) (alike : AlikeDays el one two) whe
       let passed = same-leading el one two alike in
       let counts = same-counts el one two alike in
       λ i.
-        let n = long i / recordSize in
-        let labels = noCounts .labels + n in
-        checkedFirst (checked el)
-        (cond (not (eqb (long i % recordSize) 0) || ltb 1_024 labels) (Refused TelemetryLength 0)
-        (cond (ltb (same-room i - 0) (distanceBack Bytes24 labels)) (Refused OutputLength 0)
-        (cond (ltb (passed i) n) (Refused Time (noCounts .labels + passed i)) (Labelled (noCounts plus counts i) (0 + distanceBack Bytes24 labels)))))
+      let n = long i / recordSize in
+      let labels = noCounts .labels + n in
+      checkedFirst (checked el)
+      (cond (not (eqb (long i % recordSize) 0) || ltb 1_024 labels) (Refused TelemetryLength 0)
+      (cond (ltb (same-room i - 0) (distanceBack Bytes24 labels)) (Refused OutputLength 0)
+      (cond (ltb (passed i) n) (Refused Time (noCounts .labels + passed i)) (Labelled (noCounts plus counts i) (0 + distanceBack Bytes24 labels)))))
 
   -- ---- where they are labelled
 

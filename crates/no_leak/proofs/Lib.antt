@@ -5,3 +5,4 @@ pub mod AtOnce
 pub mod Adding
 pub mod PacketSteps
 pub mod PacketDays
+pub mod Examples

@@ -50,11 +50,13 @@ fed el bytes bytes' d e (g ∷ gs) (h ∷ hs) s t states as-long alike cut =
     let sizes : SameSizes g h = cut .0 in
     let waiting : AlikeDays (d .elements) (pending d p) (pending e q) =
     rw (elements-are el bytes d s, pending-is el bytes p d s, pending-is el bytes' q e t) (pending-alike el bytes bytes' p q (allBytes gs) (allBytes hs) as-long (sizes .same-length) alike) in
-    let same = one-packet d e g h states sizes waiting in
-    (same, λ accepted.
-      fed el (bytes ++ p) (bytes' ++ q) (dayBehind d g) (dayBehind e h) gs hs (packet-keeps el bytes p d (length (g .output)) s accepted)
-      (packet-keeps el bytes' q e (length (h .output)) t (sym (same .same-outcome) ∙ accepted)) (same .alike-states) (omega (arith, length-append bytes p, length-append bytes' q, sizes .same-length))
-      (rw (append-assoc bytes p (allBytes gs), append-assoc bytes' q (allBytes hs)) alike) (cut .1))
+    let same = one-packet d e g h states sizes waiting in (
+      same,
+      λ accepted.
+          fed el (bytes ++ p) (bytes' ++ q) (dayBehind d g) (dayBehind e h) gs hs (packet-keeps el bytes p d (length (g .output)) s accepted)
+          (packet-keeps el bytes' q e (length (h .output)) t (sym (same .same-outcome) ∙ accepted)) (same .alike-states) (omega (arith, length-append bytes p, length-append bytes' q, sizes .same-length))
+          (rw (append-assoc bytes p (allBytes gs), append-assoc bytes' q (allBytes hs)) alike) (cut .1),
+    )
 
 -- where all of the first day are accepted
 pub record AllTaken (d e : Day) (gs hs : List Given) : Type 0 where
@@ -94,12 +96,12 @@ in-packets el gs hs last last' opened alike cut same-room =
     record {
       packet-by-packet = packets;
       same-day = λ accepted.
-        let taken = all-taken d d gs hs (states-refl d) cut packets accepted in
-        let closing = closing-alike (dayFrom d gs) (dayFrom d hs) last last' (taken .states) same-room in
-        record {
-          all-accepted = taken .accepted;
-          same-closing = closing;
-          same-files = λ closed.
-            finished el (allBytes gs) (allBytes hs) (fileFrom d gs last) (fileFrom d hs last') _ _ alike (every-cut el gs last opened accepted closed) (every-cut el hs last' opened (taken .accepted) (sym (closing .same-outcome) ∙ closed));
-        };
+          let taken = all-taken d d gs hs (states-refl d) cut packets accepted in
+          let closing = closing-alike (dayFrom d gs) (dayFrom d hs) last last' (taken .states) same-room in
+          record {
+            all-accepted = taken .accepted;
+            same-closing = closing;
+            same-files = λ closed.
+                finished el (allBytes gs) (allBytes hs) (fileFrom d gs last) (fileFrom d hs last') _ _ alike (every-cut el gs last opened accepted closed) (every-cut el hs last' opened (taken .accepted) (sym (closing .same-outcome) ∙ closed));
+          };
     }

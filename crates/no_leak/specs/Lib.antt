@@ -3,3 +3,4 @@ pub mod Files
 pub mod AtOnce
 pub mod Adding
 pub mod Packets
+pub mod Examples

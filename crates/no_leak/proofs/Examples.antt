@@ -1,0 +1,103 @@
+-- The examples, computed: two days that are alike and differ, and one whose training record differs. Assumes nothing.
+use mathlib.Core.Path.{_≡_, refl, ap, _∙_}
+use mathlib.Core.List.{List, [], flatMap}
+use Prim.Native.Nat.{ℕ, zero, suc, _≤_, _<_}
+use native.Mathlib.Omega.{arith}
+use lib.ListN.{length, drop, replicate}
+use lib.Ieee.{isNan, ofBits, mul}
+use Rattle.endian.specs.LittleEndian.{bytes4, bytes8}
+use Rattle.time.specs.Range.{inRange}
+use Rattle.elements.specs.Elements.{refuseIf, perigeeBelow, checkedTo7, checked}
+use Rattle.elements.specs.Time.{timesRefused, timeRefused}
+use Rattle.elements.specs.declared.Elements.{Elements}
+use Rattle.orbit.specs.Placement.{stateOf}
+use Rattle.orbit.specs.Revolution.{gain, nodePassages, revolution}
+use Rattle.orbit.specs.Turns.{wholeTurns, partTurn, linearTerm, quadraticTerm, advance, drift}
+use Rattle.telemetry.specs.Readings.{readingOf}
+use Rattle.telemetry.specs.Records.{sampleOf}
+use Rattle.label.specs.Sides.{withheld, training, test, sideOf}
+use Rattle.trailer.specs.Sequence.{leading}
+use Rattle.trailer.specs.Counts.{isOn, countsOf, noCounts}
+use Rattle.trailer.specs.Trailer.{trailerSize}
+use Rattle.trailer.specs.declared.Counts.{Counts}
+use Rattle.trailer.proofs.Tallies.{none-plus}
+use Rattle.label_file.specs.File.{outputRefused}
+use Rattle.labelling.specs.Record.{labelWith, labelFor, passes}
+use Rattle.labelling.specs.Records.{recordAt, records, labelAt, passesAt, telemetryRefused, labelledRecords, labelledTelemetry}
+use Rattle.labelling.specs.Day.{labelling, outputAfter}
+use Rattle.labelling.specs.declared.Labelling.the-variants.{Labelled}
+use Rattle.labelling.proofs.PassedRecords.{day-passed, label-keeps}
+use Rattle.labelling.proofs.WrittenFile.{end-is, output-is}
+use Rattle.label_file.proofs.RoundTrip.{file-length}
+use Rattle.trailer.specs.declared.Form.the-variants.{Bytes24}
+use Rattle.scale.specs.Figures.{trainingIn, nothing, withLabel, nextFile}
+use Rattle.scale.specs.Step.{figuresAllowed, firstLabels, scaling}
+use Rattle.scale.specs.declared.Figures.{Figures}
+use Rattle.no_leak.specs.Alike.{TrainingRecord, AlikeRecords}
+use Rattle.no_leak.specs.Examples.{satellite, five32, six32, recordOf, dayOf, first, alikeToIt, AlikeExample, UnlikeExample, leastBy, figuresFor}
+use Rattle.no_leak.proofs.FilesInBuffers.{scaledWith, scaled-is}
+
+-- ---- three records, whatever their volts
+
+module _ (v w x : ℕ) where
+  labelled : labelling satellite (dayOf v w x) 96 ≡ Labelled (countsOf (labelAt satellite (dayOf v w x)) 3) 96
+  unfolding labelling labelledTelemetry telemetryRefused outputRefused labelledRecords noCounts trailerSize satellite dayOf recordOf bytes8 bytes4 checked checkedTo7 refuseIf perigeeBelow inRange leading passesAt passes timeRefused timesRefused recordAt sampleOf
+  labelled = ap (λ (c : Counts). Labelled c 96) (none-plus (countsOf (labelAt satellite (dayOf v w x)) 3))
+
+  sides : (labelAt satellite (dayOf v w x) 0 .side ≡ training) × (labelAt satellite (dayOf v w x) 1 .side ≡ withheld) × (labelAt satellite (dayOf v w x) 2 .side ≡ test)
+  unfolding satellite dayOf recordOf bytes8 bytes4 labelAt labelFor labelWith recordAt sampleOf stateOf revolution nodePassages gain advance linearTerm wholeTurns partTurn quadraticTerm drift sideOf
+  sides = (refl, refl, refl)
+
+  -- the withheld and the test record
+  others-free : (k : ℕ) → k < 2 → TrainingRecord satellite (recordAt (dayOf v w x) (suc k)) → ⊥
+  unfolding satellite dayOf recordOf bytes8 bytes4 recordAt sampleOf revolution nodePassages gain advance linearTerm wholeTurns partTurn quadraticTerm drift sideOf
+  others-free zero b t = let z : _≡_ {A = ℕ} 0 1 = t .side in omega arith
+  others-free (suc zero) b t = let z : _≡_ {A = ℕ} 2 1 = t .side in omega arith
+  others-free (suc (suc k)) b t = omega arith
+
+-- ---- two days that are alike
+
+alike-at : (k : ℕ) → k < 3 → AlikeRecords satellite (recordAt first k) (recordAt alikeToIt k)
+unfolding dayOf recordOf bytes8 bytes4 recordAt sampleOf
+alike-at zero b = record { same-time = refl; same-volts = λ t. refl; same-amperes = λ t. refl }
+alike-at (suc zero) b = record { same-time = refl; same-volts = λ t. absurd (others-free five32 five32 five32 0 (omega arith) t); same-amperes = λ t. refl }
+alike-at (suc (suc zero)) b = record { same-time = refl; same-volts = λ t. absurd (others-free five32 five32 five32 1 (omega arith) t); same-amperes = λ t. refl }
+alike-at (suc (suc (suc k))) b = absurd (omega arith)
+
+pub alike-days : AlikeExample
+unfolding dayOf recordOf bytes8 bytes4 labelAt labelFor labelWith recordAt sampleOf readingOf isNan ofBits mul
+alike-days =
+    record {
+      labelled = labelled five32 five32 five32;
+      sides = sides five32 five32 five32;
+      alike = record { same-length = refl; alike-records = alike-at };
+      withheld-reading = (refl, refl);
+      test-reading = (refl, refl);
+    }
+
+-- ---- a training record that differs
+
+-- the scale figures with the file that labelling a day makes
+made-figures : (el : Elements) (day output : List ℕ) (counts : Counts) (size : ℕ) (f : Figures) → labelling el day (length output) ≡ Labelled counts size
+    → scaling f (outputAfter el day output) size ≡ scaledWith f (trainingIn (firstLabels (labelAt el day) (records day)))
+unfolding noCounts
+made-figures el day output counts size f e =
+    let passed = day-passed el day (length output) counts size e in
+    let few : records day ≤ 1024 = omega (arith, passed .records .few) in
+    rw (output-is el day output counts size e)
+    (scaled-is (labelAt el day) (records day) (label-keeps el 0 noCounts day (length output) counts size (passed .records) (passed .elements)) few [] (drop size output) size (omega (arith, file-length Bytes24 (labelAt el day) (records day), end-is el day output counts size e)) f)
+
+least-is : (v w x : ℕ) → leastBy (figuresFor (dayOf v w x)) ≡ leastBy (scaledWith nothing (trainingIn (firstLabels (labelAt satellite (dayOf v w x)) 3)))
+unfolding dayOf recordOf bytes8 bytes4
+least-is v w x = ap leastBy (made-figures satellite (dayOf v w x) (replicate 96 0) _ 96 nothing (labelled v w x))
+
+pub unlike-days : UnlikeExample
+unfolding satellite dayOf recordOf bytes8 bytes4 labelAt labelFor labelWith recordAt sampleOf readingOf isNan ofBits mul flatMap firstLabels nothing withLabel nextFile figuresAllowed isOn stateOf revolution nodePassages gain advance linearTerm wholeTurns partTurn quadraticTerm drift sideOf
+unlike-days =
+    record {
+      same-length = refl;
+      same-time = refl;
+      same-others = (refl, refl);
+      least = least-is five32 five32 five32;
+      other-least = least-is six32 five32 five32;
+    }

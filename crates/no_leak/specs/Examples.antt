@@ -1,0 +1,110 @@
+-- The theorems are not empty: two days that are alike and differ, and a third that differs from the first in a training record, and has
+-- other figures. The checker computes them. Assumes nothing.
+use mathlib.Core.Path.{_≡_}
+use Prim.Native.Nat.{ℕ, _^_}
+use mathlib.Core.List.{List, _++_}
+use lib.IntN.{pos}
+use lib.Ieee.{Float, binary32, ofBits}
+use lib.ListN.{length, replicate}
+use Rattle.endian.specs.LittleEndian.{bytes4, bytes8}
+use Rattle.elements.specs.declared.Elements.{Elements}
+use Rattle.telemetry.specs.declared.Reading.the-variants.{Missing, Valid}
+use Rattle.label.specs.Sides.{withheld, training, test}
+use Rattle.trailer.specs.Counts.{countsOf}
+use Rattle.extreme.specs.declared.Extreme.{Extreme}
+use Rattle.extreme.specs.declared.Extreme.the-variants.{Nothing, Held}
+use Rattle.labelling.specs.Records.{recordAt, labelAt}
+use Rattle.labelling.specs.Day.{labelling, outputAfter}
+use Rattle.labelling.specs.declared.Labelling.the-variants.{Labelled}
+use Rattle.scale.specs.Figures.{nothing}
+use Rattle.scale.specs.Step.{scaling}
+use Rattle.scale.specs.declared.Scaling.{Scaling}
+use Rattle.scale.specs.declared.Scaling.the-variants as scaled
+use Rattle.no_leak.specs.Alike.{AlikeDays}
+
+-- ---- the days
+
+-- 15 revolutions a day, in a circle, and revolution 63 at the epoch
+unfoldable pub satellite : Elements
+satellite =
+    record {
+      eccentricity = 0;
+      «semi_major_axis» = 6_945_000;
+      inclination = 2 ^ 30;
+      node = 0;
+      «argument_of_perigee» = 0;
+      «mean_anomaly» = 0;
+      «mean_motion» = 1_500_000_000;
+      «node_rate» = pos 0;
+      «perigee_rate» = pos 0;
+      «epoch_revolution» = 63;
+      epoch = pos 0;
+      «half_mean_motion_derivative» = pos 0;
+    }
+
+-- the bits of 2, 5 and 6 in binary32, and those of a NaN
+abbrev pub two32 : ℕ
+two32 = 1_073_741_824
+
+abbrev pub five32 : ℕ
+five32 = 1_084_227_584
+
+abbrev pub six32 : ℕ
+six32 = 1_086_324_736
+
+abbrev pub nan32 : ℕ
+nan32 = 2_143_289_344
+
+-- 10 and 12, by their bits
+abbrev pub ten : Float
+ten = ofBits binary32 1_092_616_192
+
+abbrev pub twelve : Float
+twelve = ofBits binary32 1_094_713_344
+
+-- a record of 2 amperes
+unfoldable pub recordOf : ℕ → ℕ → List ℕ
+recordOf time volts = bytes8 time ++ (bytes4 volts ++ bytes4 two32)
+
+-- three records, one in each of the revolutions 63, 64 and 65, by their volts
+unfoldable pub dayOf : ℕ → ℕ → ℕ → List ℕ
+dayOf v w x = recordOf 0 v ++ (recordOf 6_000 w ++ recordOf 12_000 x)
+
+abbrev pub first : List ℕ
+first = dayOf five32 five32 five32
+
+abbrev pub alikeToIt : List ℕ
+alikeToIt = dayOf five32 six32 nan32
+
+abbrev pub unlikeIt : List ℕ
+unlikeIt = dayOf six32 five32 five32
+
+-- ---- two days that are alike
+
+-- They are labelled, with a label on each side; they are alike, and differ in volts and in labels, of the withheld record and of the test
+-- record (law `alike-days`).
+pub record AlikeExample : Type 0 where
+  pub labelled : labelling satellite first 96 ≡ Labelled (countsOf (labelAt satellite first) 3) 96
+  pub sides : (labelAt satellite first 0 .side ≡ training) × (labelAt satellite first 1 .side ≡ withheld) × (labelAt satellite first 2 .side ≡ test)
+  pub alike : AlikeDays satellite first alikeToIt
+  pub withheld-reading : (labelAt satellite first 1 .reading ≡ Valid ten) × (labelAt satellite alikeToIt 1 .reading ≡ Valid twelve)
+  pub test-reading : (labelAt satellite first 2 .reading ≡ Valid ten) × (labelAt satellite alikeToIt 2 .reading ≡ Missing)
+
+-- ---- a training record that differs
+
+abbrev pub leastBy : Scaling → Extreme
+leastBy (scaled.Added f) = f .least
+leastBy (scaled.Refused refusal place) = Nothing
+
+-- the figures with the file of a day
+abbrev pub figuresFor : List ℕ → Scaling
+figuresFor day = scaling nothing (outputAfter satellite day (replicate 96 0)) 96
+
+-- The records but the first, which is on the training side, are the same, and so are all times; the least watts of the figures are not
+-- (law `unlike-days`).
+pub record UnlikeExample : Type 0 where
+  pub same-length : length first ≡ length unlikeIt
+  pub same-time : recordAt first 0 .time ≡ recordAt unlikeIt 0 .time
+  pub same-others : (recordAt first 1 ≡ recordAt unlikeIt 1) × (recordAt first 2 ≡ recordAt unlikeIt 2)
+  pub least : leastBy (figuresFor first) ≡ Held ten
+  pub other-least : leastBy (figuresFor unlikeIt) ≡ Held twelve
