@@ -5,12 +5,12 @@ use Prim.Native.Nat.{ℕ, _+_}
 use native.Mathlib.Omega.{arith}
 use lib.ListN.{length, drop, length-append}
 use Rattle.elements.specs.declared.Elements.{Elements}
-use Rattle.trailer.specs.Trailer.{distanceBack}
 use Rattle.trailer.specs.declared.Counts.{Counts}
 use Rattle.trailer.specs.declared.Form.{Form}
 use Rattle.label_file.proofs.RoundTrip.{file-length}
 use Rattle.labelling.specs.Records.{records, labelAt}
 use Rattle.labelling.specs.Day.{labelling, outputAfter}
+use Rattle.labelling.specs.Adding.{adding, bufferAfter}
 use Rattle.labelling.specs.Continuing.{moved, Continued}
 use Rattle.labelling.specs.declared.Labelling.{Labelling}
 use Rattle.labelling.specs.declared.Labelling.the-variants.{Labelled, Refused}
@@ -18,7 +18,7 @@ use Rattle.labelling.proofs.Continuing.{adding-continues}
 use Rattle.labelling.proofs.PassedRecords.{day-passed}
 use Rattle.labelling.proofs.WrittenFile.{output-is}
 use Rattle.no_leak.specs.Alike.{AlikeDays}
-use Rattle.no_leak.specs.Files.{FilesBy}
+use Rattle.no_leak.specs.Files.{FilesBy, NoLeak}
 use Rattle.no_leak.specs.Adding.{fileFor, Adding}
 use Rattle.no_leak.proofs.AlikeRecords.{same-number, joined-alike}
 use Rattle.no_leak.proofs.AtOnce.{same-answer, made-files}
@@ -39,16 +39,13 @@ module _ (el : Elements) (one two more more' front front' rest rest' : List ℕ)
       let n = same-number el one two alike in
       omega (arith, length-append (fileFor el form one) rest, length-append (fileFor el form two) rest', file-length form (labelAt el one) (records one), file-length form (labelAt el two) (records two), n)
 
-  pub continued : Continued el one more front (fileFor el form one) rest
+  continued : Continued el one more front (fileFor el form one) rest
   continued = adding-continues el one more front rest form room size counts labelled
 
-  pub continued' : Continued el two more' front' (fileFor el form two) rest'
+  continued' : Continued el two more' front' (fileFor el form two) rest'
   continued' = adding-continues el two more' front' rest' form room size counts (sym (same-answer el one two alike refl) ∙ labelled)
 
-  pub answer : moved (length front) (labelling el (one ++ more) (length (fileFor el form one ++ rest))) ≡ moved (length front') (labelling el (two ++ more') (length (fileFor el form two ++ rest')))
-  answer = λ i. moved (as-much i) (same-answer el (one ++ more) (two ++ more') all same-room i)
-
-  pub files : (a : Labelling) → labelling el (one ++ more) (length (fileFor el form one ++ rest)) ≡ a
+  files : (a : Labelling) → labelling el (one ++ more) (length (fileFor el form one ++ rest)) ≡ a
       → FilesBy (moved (length front) a) (length front) (front ++ outputAfter el (one ++ more) (fileFor el form one ++ rest)) (front' ++ outputAfter el (two ++ more') (fileFor el form two ++ rest'))
   files (Refused refusal place) e = tt
   files (Labelled c end) e =
@@ -56,13 +53,13 @@ module _ (el : Elements) (one two more more' front front' rest rest' : List ℕ)
       rw (output-is el (one ++ more) out c end e, output-is el (two ++ more') out' c end e')
       (made-files el (one ++ more) (two ++ more') all (length out) c end e front front' (drop end out) (drop end out') (length front) (length front + end) refl (sym as-much) refl)
 
+  no-leak : NoLeak (length front) (adding el (front ++ (fileFor el form one ++ rest)) (length front + length (fileFor el form one)) more) (adding el (front' ++ (fileFor el form two ++ rest')) (length front' + length (fileFor el form two)) more')
+      (bufferAfter el (front ++ (fileFor el form one ++ rest)) (length front + length (fileFor el form one)) more) (bufferAfter el (front' ++ (fileFor el form two ++ rest')) (length front' + length (fileFor el form two)) more')
+  no-leak =
+      record {
+        same-answer = continued .answer-is ∙ (λ i. moved (as-much i) (same-answer el (one ++ more) (two ++ more') all same-room i)) ∙ sym (continued' .answer-is);
+        same-files = rw (continued .answer-is, continued .buffer-is, continued' .buffer-is) (files (labelling el (one ++ more) (length out)) refl);
+      }
+
 pub added : Adding
-added el one two more more' front front' rest rest' form room size counts alike labelled alike-more as-much as-much-behind =
-    let c = continued el one two more more' front front' rest rest' form room size counts alike labelled alike-more as-much as-much-behind in
-    let c' = continued' el one two more more' front front' rest rest' form room size counts alike labelled alike-more as-much as-much-behind in
-    let same = answer el one two more more' front front' rest rest' form room size counts alike labelled alike-more as-much as-much-behind in
-    let by = files el one two more more' front front' rest rest' form room size counts alike labelled alike-more as-much as-much-behind in
-    record {
-      same-answer = c .answer-is ∙ same ∙ sym (c' .answer-is);
-      same-files = rw (c .answer-is, c .buffer-is, c' .buffer-is) (by _ refl);
-    }
+added = no-leak

@@ -1,6 +1,6 @@
 -- Alike days: their records are refused alike, their labels have the same counts, and their training labels are the same; days that are
 -- cut and joined. Assumes nothing.
-use mathlib.Core.Path.{_≡_, sym, ap, subst, _∙_}
+use mathlib.Core.Path.{_≡_, sym, ap, _∙_}
 use mathlib.Core.Bool.{true, not}
 use mathlib.Core.Logic.{dite}
 use mathlib.Core.List.{List, _++_, append-assoc}

@@ -16,14 +16,14 @@ use Rattle.trailer.specs.declared.Counts.{Counts}
 use Rattle.trailer.specs.declared.Form.the-variants.{Bytes24}
 use Rattle.trailer.proofs.Tallies.{counts-number, none-plus}
 use Rattle.label_file.specs.File.{fileOf, outputRefused}
-use Rattle.labelling.specs.Records.{recordAt, records, labelAt, passesAt, telemetryRefused, labelledRecords, labelledTelemetry, checkedFirst}
+use Rattle.labelling.specs.Records.{records, labelAt, passesAt, telemetryRefused, labelledRecords, labelledTelemetry, checkedFirst}
 use Rattle.labelling.specs.Day.{labelling, outputAfter}
 use Rattle.labelling.specs.declared.Labelling.{Labelling}
 use Rattle.labelling.specs.declared.Labelling.the-variants.{Labelled, Refused}
 use Rattle.labelling.proofs.PassedRecords.{PassedDay, day-passed, record-passes}
 use Rattle.labelling.proofs.WrittenFile.{output-is}
 use Rattle.no_leak.specs.Alike.{AlikeDays}
-use Rattle.no_leak.specs.Files.{SameFiles, FilesBy, NoLeak}
+use Rattle.no_leak.specs.Files.{SameFiles, FilesBy}
 use Rattle.no_leak.specs.AtOnce.{AtOnce}
 use Rattle.no_leak.proofs.AlikeRecords.{same-number, same-leading, same-counts, rules-one, rules-two, same-training}
 use Rattle.no_leak.proofs.FilesInBuffers.{files-alike}

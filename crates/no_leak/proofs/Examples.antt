@@ -1,6 +1,6 @@
 -- The examples, computed: two days that are alike and differ, and one whose training record differs. Assumes nothing.
-use mathlib.Core.Path.{_≡_, refl, ap, _∙_}
-use mathlib.Core.List.{List, [], flatMap}
+use mathlib.Core.Path.{_≡_, refl, ap}
+use mathlib.Core.List.{List, [], flatMap, foldl}
 use Prim.Native.Nat.{ℕ, zero, suc, _≤_, _<_}
 use native.Mathlib.Omega.{arith}
 use lib.ListN.{length, drop, replicate}
@@ -30,11 +30,14 @@ use Rattle.labelling.proofs.PassedRecords.{day-passed, label-keeps}
 use Rattle.labelling.proofs.WrittenFile.{end-is, output-is}
 use Rattle.label_file.proofs.RoundTrip.{file-length}
 use Rattle.trailer.specs.declared.Form.the-variants.{Bytes24}
-use Rattle.scale.specs.Figures.{trainingIn, nothing, withLabel, nextFile}
+use Rattle.extreme.specs.Extremes.{keep}
+use Rattle.extreme.specs.declared.Extreme.the-variants.{Nothing}
+use Rattle.extreme.specs.declared.Kind.the-variants.{Greatest}
+use Rattle.scale.specs.Figures.{wattsIn, trainingIn, nothing, withLabel, nextFile}
 use Rattle.scale.specs.Step.{figuresAllowed, firstLabels, scaling}
 use Rattle.scale.specs.declared.Figures.{Figures}
 use Rattle.no_leak.specs.Alike.{TrainingRecord, AlikeRecords}
-use Rattle.no_leak.specs.Examples.{satellite, five32, six32, recordOf, dayOf, first, alikeToIt, AlikeExample, UnlikeExample, leastBy, figuresFor}
+use Rattle.no_leak.specs.Examples.{satellite, five32, six32, nan32, recordOf, dayOf, firstDay, alikeDay, figuresFor, greatestBy, AlikeExample, UnlikeExample}
 use Rattle.no_leak.proofs.FilesInBuffers.{scaledWith, scaled-is}
 
 -- ---- three records, whatever their volts
@@ -55,9 +58,25 @@ module _ (v w x : ℕ) where
   others-free (suc zero) b t = let z : _≡_ {A = ℕ} 2 1 = t .side in omega arith
   others-free (suc (suc k)) b t = omega arith
 
--- ---- two days that are alike
+-- ---- the figures
 
-alike-at : (k : ℕ) → k < 3 → AlikeRecords satellite (recordAt first k) (recordAt alikeToIt k)
+-- the scale figures with the file that labelling a day makes
+made-figures : (el : Elements) (day output : List ℕ) (counts : Counts) (size : ℕ) (f : Figures) → labelling el day (length output) ≡ Labelled counts size
+    → scaling f (outputAfter el day output) size ≡ scaledWith f (trainingIn (firstLabels (labelAt el day) (records day)))
+unfolding noCounts
+made-figures el day output counts size f e =
+    let passed = day-passed el day (length output) counts size e in
+    let few : records day ≤ 1024 = omega (arith, passed .records .few) in
+    rw (output-is el day output counts size e)
+    (scaled-is (labelAt el day) (records day) (label-keeps el 0 noCounts day (length output) counts size (passed .records) (passed .elements)) few [] (drop size output) size (omega (arith, file-length Bytes24 (labelAt el day) (records day), end-is el day output counts size e)) f)
+
+greatest-is : (v w x : ℕ) → greatestBy (figuresFor (dayOf v w x)) ≡ foldl (keep Greatest) Nothing (wattsIn (labelAt satellite (dayOf v w x) 0 .reading))
+unfolding satellite dayOf recordOf bytes8 bytes4 labelAt labelFor labelWith recordAt sampleOf flatMap firstLabels nothing withLabel nextFile figuresAllowed isOn stateOf revolution nodePassages gain advance linearTerm wholeTurns partTurn quadraticTerm drift sideOf
+greatest-is v w x = ap greatestBy (made-figures satellite (dayOf v w x) (replicate 96 0) _ 96 nothing (labelled v w x))
+
+-- ---- the days
+
+alike-at : (k : ℕ) → k < 3 → AlikeRecords satellite (recordAt firstDay k) (recordAt alikeDay k)
 unfolding dayOf recordOf bytes8 bytes4 recordAt sampleOf
 alike-at zero b = record { same-time = refl; same-volts = λ t. refl; same-amperes = λ t. refl }
 alike-at (suc zero) b = record { same-time = refl; same-volts = λ t. absurd (others-free five32 five32 five32 0 (omega arith) t); same-amperes = λ t. refl }
@@ -73,31 +92,16 @@ alike-days =
       alike = record { same-length = refl; alike-records = alike-at };
       withheld-reading = (refl, refl);
       test-reading = (refl, refl);
+      greatest = (greatest-is five32 five32 five32, greatest-is five32 six32 nan32);
     }
 
--- ---- a training record that differs
-
--- the scale figures with the file that labelling a day makes
-made-figures : (el : Elements) (day output : List ℕ) (counts : Counts) (size : ℕ) (f : Figures) → labelling el day (length output) ≡ Labelled counts size
-    → scaling f (outputAfter el day output) size ≡ scaledWith f (trainingIn (firstLabels (labelAt el day) (records day)))
-unfolding noCounts
-made-figures el day output counts size f e =
-    let passed = day-passed el day (length output) counts size e in
-    let few : records day ≤ 1024 = omega (arith, passed .records .few) in
-    rw (output-is el day output counts size e)
-    (scaled-is (labelAt el day) (records day) (label-keeps el 0 noCounts day (length output) counts size (passed .records) (passed .elements)) few [] (drop size output) size (omega (arith, file-length Bytes24 (labelAt el day) (records day), end-is el day output counts size e)) f)
-
-least-is : (v w x : ℕ) → leastBy (figuresFor (dayOf v w x)) ≡ leastBy (scaledWith nothing (trainingIn (firstLabels (labelAt satellite (dayOf v w x)) 3)))
-unfolding dayOf recordOf bytes8 bytes4
-least-is v w x = ap leastBy (made-figures satellite (dayOf v w x) (replicate 96 0) _ 96 nothing (labelled v w x))
-
 pub unlike-days : UnlikeExample
-unfolding satellite dayOf recordOf bytes8 bytes4 labelAt labelFor labelWith recordAt sampleOf readingOf isNan ofBits mul flatMap firstLabels nothing withLabel nextFile figuresAllowed isOn stateOf revolution nodePassages gain advance linearTerm wholeTurns partTurn quadraticTerm drift sideOf
+unfolding dayOf recordOf bytes8 bytes4 labelAt labelFor labelWith recordAt sampleOf readingOf isNan ofBits mul
 unlike-days =
     record {
       same-length = refl;
       same-time = refl;
+      same-amperes = refl;
       same-others = (refl, refl);
-      least = least-is five32 five32 five32;
-      other-least = least-is six32 five32 five32;
+      greatest = (greatest-is five32 five32 five32, greatest-is six32 five32 five32);
     }

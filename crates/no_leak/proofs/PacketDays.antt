@@ -16,7 +16,6 @@ use Rattle.packets.specs.declared.Day.{Day}
 use Rattle.packets.specs.declared.Outcome.the-variants.{Accepted}
 use Rattle.packets.specs.Day.{openingStep}
 use Rattle.packets.specs.Packet.{pending, unfinished}
-use Rattle.packets.specs.Closing.{closingStep}
 use Rattle.packets.specs.SoFar.{dayAfter, SoFar}
 use Rattle.packets.specs.Cutting.{Given, allBytes, dayBehind, dayFrom, AllAccepted, fileFrom, OneGo}
 use Rattle.packets.proofs.CutBytes.{joined-is}
@@ -24,7 +23,7 @@ use Rattle.packets.proofs.EveryCut.{every-cut}
 use Rattle.packets.proofs.TakenSoFar.{opening-makes, packet-keeps}
 use Rattle.no_leak.specs.Alike.{AlikeDays}
 use Rattle.no_leak.specs.Files.{SameFiles, FilesBy}
-use Rattle.no_leak.specs.Packets.{AlikeStates, SameSizes, SamePacket, CutAlike, PacketByPacket, SameDay, InPackets}
+use Rattle.no_leak.specs.Packets.{AlikeStates, SameSizes, SamePacket, CutAlike, PacketByPacket, InPackets}
 use Rattle.no_leak.proofs.AlikeRecords.{same-number, pending-alike}
 use Rattle.no_leak.proofs.AtOnce.{at-once}
 use Rattle.no_leak.proofs.PacketSteps.{states-refl, one-packet, closing-alike}

@@ -1,12 +1,12 @@
 -- Alike days in packets that are cut alike: one packet, closing, packets one after another, and the finished files. Assumes nothing.
 use mathlib.Core.Path.{_≡_, refl, sym, ap, subst, _∙_}
 use mathlib.Core.Bool.{Bool, true, false, not, _&&_, cond}
-use mathlib.Core.List.{List, [], _∷_, _++_, append-assoc, append-nil}
+use mathlib.Core.List.{List, _++_}
 use Prim.Native.Nat.{ℕ, _+_, _*_, _<_}
 use native.Mathlib.Omega.{arith}
 use lib.Dec.{eqb, leb, ltb}
-use lib.ListN.{length, take, drop, replicate, length-append, length-drop}
-use lib.Seq.{take-at, drop-length}
+use lib.ListN.{length, take, drop, replicate, length-drop}
+use lib.Seq.{take-at}
 use Rattle.refusal.specs.declared.Refusal.the-variants as refusal
 use Rattle.elements.specs.Elements.{checked}
 use Rattle.elements.specs.declared.Elements.{Elements}
@@ -15,35 +15,27 @@ use Rattle.telemetry.specs.Records.{recordSize}
 use Rattle.label.specs.Layout.{labelSize}
 use Rattle.trailer.specs.Sequence.{leading}
 use Rattle.trailer.specs.Counts.{countsOf, _plus_}
-use Rattle.trailer.specs.Trailer.{trailerSize, distanceBack, trailerBytes, countsAllowed}
-use Rattle.trailer.specs.declared.Counts.{Counts}
+use Rattle.trailer.specs.Trailer.{trailerSize, trailerBytes, countsAllowed}
 use Rattle.trailer.specs.declared.Form.the-variants.{Bytes24}
 use Rattle.trailer.proofs.Sequences.{leading-holds}
 use Rattle.trailer.proofs.Trailers.{trailer-length}
 use Rattle.label_file.specs.File.{bodyOf}
 use Rattle.labelling.specs.Records.{records, labelAt, passesAt}
-use Rattle.labelling.specs.Day.{outputAfter}
-use Rattle.labelling.proofs.WrittenFile.{end-is}
 use Rattle.packets.specs.declared.Day.{Day}
 use Rattle.packets.specs.declared.Outcome.{Outcome}
 use Rattle.packets.specs.declared.Outcome.the-variants.{Accepted}
 use Rattle.packets.specs.declared.Step.{Step}
-use Rattle.packets.specs.Day.{openingStep, isPassed, dayAllowed}
-use Rattle.packets.specs.Packet.{pending, completed, unfinished, padded, nextDay, refusedStep, packetStep, packetLabels, packetOutput, outputBy}
+use Rattle.packets.specs.Day.{isPassed, dayAllowed}
+use Rattle.packets.specs.Packet.{pending, completed, nextDay, refusedStep, packetStep, packetLabels, packetOutput, outputBy}
 use Rattle.packets.specs.Closing.{closedDay, closingStep, closingOutput}
-use Rattle.packets.specs.SoFar.{dayAfter, SoFar}
-use Rattle.packets.specs.Cutting.{Given, allBytes, dayBehind, dayFrom, AllAccepted, fileFrom, OneGo}
+use Rattle.packets.specs.Cutting.{Given}
 use Rattle.packets.proofs.AllowedDays.{allowed-says}
-use Rattle.packets.proofs.CutBytes.{joined-is}
-use Rattle.packets.proofs.EveryCut.{every-cut}
-use Rattle.packets.proofs.Steps.{TakenWhole, taken-whole}
-use Rattle.packets.proofs.TakenSoFar.{opening-makes, packet-keeps}
+use Rattle.packets.proofs.Steps.{taken-whole}
 use Rattle.no_leak.specs.Alike.{AlikeDays}
-use Rattle.no_leak.specs.Files.{SameTraining, SameFiles}
-use Rattle.no_leak.specs.Packets.{AlikeStates, SameSizes, outcomeOf, SamePacket, OnePacket, SameClosing, CutAlike, PacketByPacket, SameDay, NoLeakIn, InPackets}
-use Rattle.no_leak.proofs.AlikeRecords.{same-number, same-leading, same-counts, rules-one, rules-two, same-training, pending-alike}
+use Rattle.no_leak.specs.Files.{SameTraining}
+use Rattle.no_leak.specs.Packets.{AlikeStates, SameSizes, outcomeOf, OnePacket, SameClosing}
+use Rattle.no_leak.proofs.AlikeRecords.{same-number, same-leading, same-counts, rules-one, rules-two, same-training}
 use Rattle.no_leak.proofs.FilesInBuffers.{parts-alike}
-use Rattle.no_leak.proofs.AtOnce.{at-once}
 
 -- ---- states
 

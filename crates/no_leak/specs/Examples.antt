@@ -1,5 +1,5 @@
--- The theorems are not empty: two days that are alike and differ, and a third that differs from the first in a training record, and has
--- other figures. The checker computes them. Assumes nothing.
+-- The theorems are not empty, and what alike asks is needed: two days that are alike and differ, and a third that differs in a training
+-- record and has other figures. The checker computes all of it. Assumes nothing.
 use mathlib.Core.Path.{_≡_}
 use Prim.Native.Nat.{ℕ, _^_}
 use mathlib.Core.List.{List, _++_}
@@ -70,41 +70,41 @@ recordOf time volts = bytes8 time ++ (bytes4 volts ++ bytes4 two32)
 unfoldable pub dayOf : ℕ → ℕ → ℕ → List ℕ
 dayOf v w x = recordOf 0 v ++ (recordOf 6_000 w ++ recordOf 12_000 x)
 
-abbrev pub first : List ℕ
-first = dayOf five32 five32 five32
+abbrev pub firstDay : List ℕ
+firstDay = dayOf five32 five32 five32
 
-abbrev pub alikeToIt : List ℕ
-alikeToIt = dayOf five32 six32 nan32
+abbrev pub alikeDay : List ℕ
+alikeDay = dayOf five32 six32 nan32
 
-abbrev pub unlikeIt : List ℕ
-unlikeIt = dayOf six32 five32 five32
+abbrev pub unlikeDay : List ℕ
+unlikeDay = dayOf six32 five32 five32
 
--- ---- two days that are alike
+-- ---- the figures with the file of a day
 
--- They are labelled, with a label on each side; they are alike, and differ in volts and in labels, of the withheld record and of the test
--- record (law `alike-days`).
-pub record AlikeExample : Type 0 where
-  pub labelled : labelling satellite first 96 ≡ Labelled (countsOf (labelAt satellite first) 3) 96
-  pub sides : (labelAt satellite first 0 .side ≡ training) × (labelAt satellite first 1 .side ≡ withheld) × (labelAt satellite first 2 .side ≡ test)
-  pub alike : AlikeDays satellite first alikeToIt
-  pub withheld-reading : (labelAt satellite first 1 .reading ≡ Valid ten) × (labelAt satellite alikeToIt 1 .reading ≡ Valid twelve)
-  pub test-reading : (labelAt satellite first 2 .reading ≡ Valid ten) × (labelAt satellite alikeToIt 2 .reading ≡ Missing)
-
--- ---- a training record that differs
-
-abbrev pub leastBy : Scaling → Extreme
-leastBy (scaled.Added f) = f .least
-leastBy (scaled.Refused refusal place) = Nothing
-
--- the figures with the file of a day
 abbrev pub figuresFor : List ℕ → Scaling
 figuresFor day = scaling nothing (outputAfter satellite day (replicate 96 0)) 96
 
--- The records but the first, which is on the training side, are the same, and so are all times; the least watts of the figures are not
--- (law `unlike-days`).
+-- the greatest watts among them
+abbrev pub greatestBy : Scaling → Extreme
+greatestBy (scaled.Added f) = f .greatest
+greatestBy (scaled.Refused refusal place) = Nothing
+
+-- ---- what the days show
+
+-- The first day is labelled, with a label on each side. The second is alike to it, and differs in the volts, and so in the labels, of the
+-- withheld record and of the test record; the figures do not know of their 12 watts (law `alike-days`).
+pub record AlikeExample : Type 0 where
+  pub labelled : labelling satellite firstDay 96 ≡ Labelled (countsOf (labelAt satellite firstDay) 3) 96
+  pub sides : (labelAt satellite firstDay 0 .side ≡ training) × (labelAt satellite firstDay 1 .side ≡ withheld) × (labelAt satellite firstDay 2 .side ≡ test)
+  pub alike : AlikeDays satellite firstDay alikeDay
+  pub withheld-reading : (labelAt satellite firstDay 1 .reading ≡ Valid ten) × (labelAt satellite alikeDay 1 .reading ≡ Valid twelve)
+  pub test-reading : (labelAt satellite firstDay 2 .reading ≡ Valid ten) × (labelAt satellite alikeDay 2 .reading ≡ Missing)
+  pub greatest : (greatestBy (figuresFor firstDay) ≡ Held ten) × (greatestBy (figuresFor alikeDay) ≡ Held ten)
+
+-- The third day differs from the first in the volts of the training record alone, and has other figures (law `unlike-days`).
 pub record UnlikeExample : Type 0 where
-  pub same-length : length first ≡ length unlikeIt
-  pub same-time : recordAt first 0 .time ≡ recordAt unlikeIt 0 .time
-  pub same-others : (recordAt first 1 ≡ recordAt unlikeIt 1) × (recordAt first 2 ≡ recordAt unlikeIt 2)
-  pub least : leastBy (figuresFor first) ≡ Held ten
-  pub other-least : leastBy (figuresFor unlikeIt) ≡ Held twelve
+  pub same-length : length firstDay ≡ length unlikeDay
+  pub same-time : recordAt firstDay 0 .time ≡ recordAt unlikeDay 0 .time
+  pub same-amperes : recordAt firstDay 0 .amperes ≡ recordAt unlikeDay 0 .amperes
+  pub same-others : (recordAt firstDay 1 ≡ recordAt unlikeDay 1) × (recordAt firstDay 2 ≡ recordAt unlikeDay 2)
+  pub greatest : (greatestBy (figuresFor firstDay) ≡ Held ten) × (greatestBy (figuresFor unlikeDay) ≡ Held twelve)
