@@ -359,6 +359,25 @@ pub fn facing_sun(random: &mut Random) -> (Elements, Vec<u8>) {
     (elements, telemetry)
 }
 
+/// A day about the withheld revolution ahead of those of test, or the one behind them; at times with records that are
+/// refused.
+pub fn changes_of_side(random: &mut Random) -> (Elements, Vec<u8>) {
+    let mut elements = accepted_elements(random);
+    elements.epoch = random.between(TIME_MIN, TIME_MAX);
+    elements.epoch_revolution = 80 * random.below(1_249) as u32 + random.pick(&[64, 80]);
+    let (low, high) = times(&elements);
+    let three_revolutions = 3 * 8_640_000_000_000 / i64::from(elements.mean_motion);
+    let (bad, most) = (random.one_in(8), if random.one_in(64) { 1_024 } else { 48 });
+    let mut telemetry = Vec::new();
+    for _ in 0..random.between(3, most) {
+        let near = elements.epoch + random.between(-three_revolutions, three_revolutions);
+        let bad = bad && random.one_in(8);
+        let time = if bad { time(random, &elements) } else { near.clamp(low, high) };
+        record(random, time, &mut telemetry);
+    }
+    (elements, telemetry)
+}
+
 /// The satellite's shade at a time that goes with its elements.
 fn shade_at(elements: &Elements, time: i64) -> Shade {
     let position = elements.state(time).expect("accepted").position;

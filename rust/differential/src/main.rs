@@ -3,10 +3,11 @@
 //!     differential [--seed N] [--count N]
 //!
 //! Each cheap subject gets `count` comparisons (1,000,000 where none is given), scale figures a fourth of it, elements
-//! files, tails, salvage and packets a tenth, labelling, reading and adding a hundredth in days and files. The same
-//! seed gives the same inputs.
+//! files, tails, salvage and packets a tenth, labelling, reading and adding a hundredth in days and files, leaks a
+//! hundredth in pairs of days. The same seed gives the same inputs.
 
 mod additions;
+mod alike_days;
 mod answers;
 mod buffers;
 mod days;
@@ -14,6 +15,7 @@ mod elements_files;
 mod files;
 mod inputs;
 mod label_files;
+mod leaks;
 mod lent;
 mod numbers;
 mod packets;
@@ -60,7 +62,7 @@ fn main() -> ExitCode {
         return ExitCode::from(2);
     };
     println!("seed {seed}");
-    let subjects: [(&str, u64, Subject); 16] = [
+    let subjects: [(&str, u64, Subject); 17] = [
         ("sine", count, numbers::sine),
         ("kepler", count, numbers::kepler),
         ("position", count, numbers::position),
@@ -77,6 +79,7 @@ fn main() -> ExitCode {
         ("salvage", count / 10, salvages::salvage),
         ("packets", count / 10, packets::packets),
         ("scale", count / 4, scales::scale),
+        ("leaks", count / 100, leaks::leaks),
     ];
     let mut differences = 0;
     for (number, (name, rounds, compare)) in subjects.into_iter().enumerate() {
@@ -87,6 +90,7 @@ fn main() -> ExitCode {
         for _ in 0..rounds {
             compare(&mut random, &mut report);
         }
+        report.end();
         report.print(start.elapsed());
         differences += report.differences();
     }

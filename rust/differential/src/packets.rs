@@ -223,7 +223,7 @@ fn cut<'a>(random: &mut Random, bytes: &'a [u8]) -> Vec<&'a [u8]> {
 }
 
 /// Room for so many bytes: enough, a byte short or more, that of a trailer besides, or something else.
-fn room(random: &mut Random, exact: usize) -> usize {
+pub fn room(random: &mut Random, exact: usize) -> usize {
     match random.below(12) {
         0 => exact.saturating_sub(1),
         1 => exact.saturating_sub(LABEL_BYTES),

@@ -39,6 +39,9 @@ impl Debug for Text<'_> {
 /// The most differences of a subject that are printed.
 const SHOWN: u64 = 5;
 
+/// The comparisons of a subject from which on each kind of answer that is due must be among them.
+const ENOUGH: u64 = 10_000;
+
 pub struct Report {
     subject: &'static str,
     comparisons: u64,
@@ -63,6 +66,24 @@ impl Report {
     /// Counts an answer of a kind.
     pub fn answer(&mut self, kind: &'static str) {
         *self.answers.entry(kind).or_default() += 1;
+    }
+
+    /// Says that answers of a kind are due: that there are none is a difference.
+    pub fn due(&mut self, kind: &'static str) {
+        self.answers.entry(kind).or_default();
+    }
+
+    /// Counts a difference for each kind that was due and not given, where enough was compared.
+    pub fn end(&mut self) {
+        let comparisons = self.comparisons;
+        if comparisons < ENOUGH {
+            return;
+        }
+        let missing = self.answers.iter().filter(|(_, times)| **times == 0).map(|(kind, _)| *kind);
+        for kind in missing.collect::<Vec<_>>() {
+            let input = format_args!("{comparisons} comparisons");
+            self.difference(&input, kind, &0, &format_args!("1 or more"));
+        }
     }
 
     /// Compares two outcomes of one input.

@@ -263,7 +263,7 @@ fn total(random: &mut Random, most: i64) -> i64 {
 }
 
 /// Figures that 15 does not refuse.
-fn good(random: &mut Random) -> Figures {
+pub fn good(random: &mut Random) -> Figures {
     let files = match random.below(4) {
         0 => random.pick(&[0, 1, 998, 999]),
         1 => random.index(4) as u32,
@@ -285,7 +285,7 @@ fn good(random: &mut Random) -> Figures {
 }
 
 /// Takes one of the figures to a bound of 15 or over it.
-fn damage(random: &mut Random, figures: &mut Figures) {
+pub fn damage(random: &mut Random, figures: &mut Figures) {
     let Figures { files, labels, .. } = *figures;
     let most = most(labels);
     match random.below(14) {
