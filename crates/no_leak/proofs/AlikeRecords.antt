@@ -65,7 +65,7 @@ module _ (el : Elements) (r s : Sample) (a : AlikeRecords el r s) where
 
 module _ (el : Elements) (one two : List ℕ) (alike : AlikeDays el one two) where
   pub same-number : records one ≡ records two
-  same-number = ap (λ (n : ℕ). n / recordSize) (alike .same-length)
+  same-number = omega (arith, alike .same-length)
 
   passing-same : (k : ℕ) → k < records one → passesAt el one k ≡ passesAt el two k
   unfolding passesAt

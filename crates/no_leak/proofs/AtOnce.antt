@@ -28,6 +28,11 @@ use Rattle.no_leak.specs.AtOnce.{AtOnce}
 use Rattle.no_leak.proofs.AlikeRecords.{same-number, same-leading, same-counts, rules-one, rules-two, same-training}
 use Rattle.no_leak.proofs.FilesInBuffers.{files-alike}
 
+pub labels-number : (el : Elements) (telemetry : List ℕ) (room : ℕ) (counts : Counts) (size : ℕ) → labelling el telemetry room ≡ Labelled counts size → counts .labels ≡ records telemetry
+labels-number el telemetry room counts size e =
+    let c = countsOf (labelAt el telemetry) (records telemetry) in
+    ap (λ (x : Counts). x .labels) (sym (day-passed el telemetry room counts size e .records .counts-are) ∙ none-plus c) ∙ counts-number (labelAt el telemetry) (records telemetry)
+
 module _ (el : Elements) (one two : List ℕ) (alike : AlikeDays el one two) where
   pub same-answer : {room room' : ℕ} → room ≡ room' → labelling el one room ≡ labelling el two room'
   unfolding labelling labelledTelemetry telemetryRefused outputRefused labelledRecords
@@ -53,10 +58,6 @@ module _ (el : Elements) (one two : List ℕ) (alike : AlikeDays el one two) whe
     unfolding passesAt
     passing = record-passes el 0 noCounts one room counts size (day .records)
 
-    number : counts .labels ≡ records one
-    number =
-        ap (λ (c : Counts). c .labels) (sym (day .records .counts-are) ∙ none-plus (countsOf (labelAt el one) (records one))) ∙ counts-number (labelAt el one) (records one)
-
     few : records one ≤ 1024
     unfolding noCounts
     few = omega (arith, day .records .few)
@@ -70,7 +71,7 @@ module _ (el : Elements) (one two : List ℕ) (alike : AlikeDays el one two) whe
         → SameFiles first (counts .labels) end (front ++ (fileOf Bytes24 (labelAt el one) (records one) ++ rest)) (front' ++ (fileOf Bytes24 (labelAt el two) (records two) ++ rest'))
     made-files front front' rest rest' first end at at' to =
         let c = day .elements in
-        rw (number, sym (same-number el one two alike))
+        rw (labels-number el one room counts size labelled, sym (same-number el one two alike))
         (files-alike (labelAt el one) (labelAt el two) (records one) (rules-one el one two alike c passing) (rules-two el one two alike c passing) (same-training el one two alike c passing) few
         front front' rest rest' first end at at' (omega (arith, ends)))
 

@@ -1,10 +1,10 @@
 -- The examples, computed: two days that are alike and differ, and one whose training record differs. Assumes nothing.
-use mathlib.Core.Path.{_≡_, refl, ap}
+use mathlib.Core.Path.{_≡_, refl, ap, _∙_}
 use mathlib.Core.List.{List, [], flatMap, foldl}
 use Prim.Native.Nat.{ℕ, zero, suc, _≤_, _<_}
 use native.Mathlib.Omega.{arith}
 use lib.ListN.{length, drop, replicate}
-use lib.Ieee.{isNan, ofBits, mul}
+use lib.Ieee.{Float, isNan, ofBits, mul}
 use Rattle.endian.specs.LittleEndian.{bytes4, bytes8}
 use Rattle.time.specs.Range.{inRange}
 use Rattle.elements.specs.Elements.{refuseIf, perigeeBelow, checkedTo7, checked}
@@ -15,6 +15,8 @@ use Rattle.orbit.specs.Revolution.{gain, nodePassages, revolution}
 use Rattle.orbit.specs.Turns.{wholeTurns, partTurn, linearTerm, quadraticTerm, advance, drift}
 use Rattle.telemetry.specs.Readings.{readingOf}
 use Rattle.telemetry.specs.Records.{sampleOf}
+use Rattle.telemetry.specs.declared.Reading.{Reading}
+use Rattle.telemetry.specs.declared.Reading.the-variants.{Valid}
 use Rattle.label.specs.Sides.{withheld, training, test, sideOf}
 use Rattle.trailer.specs.Sequence.{leading}
 use Rattle.trailer.specs.Counts.{isOn, countsOf, noCounts}
@@ -31,13 +33,13 @@ use Rattle.labelling.proofs.WrittenFile.{end-is, output-is}
 use Rattle.label_file.proofs.RoundTrip.{file-length}
 use Rattle.trailer.specs.declared.Form.the-variants.{Bytes24}
 use Rattle.extreme.specs.Extremes.{keep}
-use Rattle.extreme.specs.declared.Extreme.the-variants.{Nothing}
+use Rattle.extreme.specs.declared.Extreme.the-variants.{Nothing, Held}
 use Rattle.extreme.specs.declared.Kind.the-variants.{Greatest}
 use Rattle.scale.specs.Figures.{wattsIn, trainingIn, nothing, withLabel, nextFile}
 use Rattle.scale.specs.Step.{figuresAllowed, firstLabels, scaling}
 use Rattle.scale.specs.declared.Figures.{Figures}
 use Rattle.no_leak.specs.Alike.{TrainingRecord, AlikeRecords}
-use Rattle.no_leak.specs.Examples.{satellite, five32, six32, nan32, recordOf, dayOf, firstDay, alikeDay, figuresFor, greatestBy, AlikeExample, UnlikeExample}
+use Rattle.no_leak.specs.Examples.{satellite, five32, six32, nan32, ten, twelve, recordOf, dayOf, firstDay, alikeDay, figuresFor, greatestBy, AlikeExample, UnlikeExample}
 use Rattle.no_leak.proofs.FilesInBuffers.{scaledWith, scaled-is}
 
 -- ---- three records, whatever their volts
@@ -70,9 +72,11 @@ made-figures el day output counts size f e =
     rw (output-is el day output counts size e)
     (scaled-is (labelAt el day) (records day) (label-keeps el 0 noCounts day (length output) counts size (passed .records) (passed .elements)) few [] (drop size output) size (omega (arith, file-length Bytes24 (labelAt el day) (records day), end-is el day output counts size e)) f)
 
-greatest-is : (v w x : ℕ) → greatestBy (figuresFor (dayOf v w x)) ≡ foldl (keep Greatest) Nothing (wattsIn (labelAt satellite (dayOf v w x) 0 .reading))
+-- the training record alone counts
+greatest-is : (v w x : ℕ) (watts : Float) → labelAt satellite (dayOf v w x) 0 .reading ≡ Valid watts → greatestBy (figuresFor (dayOf v w x)) ≡ Held watts
 unfolding satellite dayOf recordOf bytes8 bytes4 labelAt labelFor labelWith recordAt sampleOf flatMap firstLabels nothing withLabel nextFile figuresAllowed isOn stateOf revolution nodePassages gain advance linearTerm wholeTurns partTurn quadraticTerm drift sideOf
-greatest-is v w x = ap greatestBy (made-figures satellite (dayOf v w x) (replicate 96 0) _ 96 nothing (labelled v w x))
+greatest-is v w x watts e =
+    ap greatestBy (made-figures satellite (dayOf v w x) (replicate 96 0) _ 96 nothing (labelled v w x)) ∙ ap (λ (r : Reading). foldl (keep Greatest) Nothing (wattsIn r)) e
 
 -- ---- the days
 
@@ -92,7 +96,7 @@ alike-days =
       alike = record { same-length = refl; alike-records = alike-at };
       withheld-reading = (refl, refl);
       test-reading = (refl, refl);
-      greatest = (greatest-is five32 five32 five32, greatest-is five32 six32 nan32);
+      greatest = (greatest-is five32 five32 five32 ten refl, greatest-is five32 six32 nan32 ten refl);
     }
 
 pub unlike-days : UnlikeExample
@@ -103,5 +107,5 @@ unlike-days =
       same-time = refl;
       same-amperes = refl;
       same-others = (refl, refl);
-      greatest = (greatest-is five32 five32 five32, greatest-is six32 five32 five32);
+      greatest = (greatest-is five32 five32 five32 ten refl, greatest-is six32 five32 five32 twelve refl);
     }

@@ -6,3 +6,4 @@ pub mod Adding
 pub mod PacketSteps
 pub mod PacketDays
 pub mod Examples
+pub mod Calls

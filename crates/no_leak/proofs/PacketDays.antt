@@ -9,6 +9,7 @@ use Rattle.elements.specs.declared.Elements.{Elements}
 use Rattle.trailer.specs.Trailer.{distanceBack}
 use Rattle.trailer.specs.declared.Counts.{Counts}
 use Rattle.trailer.specs.declared.Form.the-variants.{Bytes24}
+use Rattle.labelling.specs.Records.{records}
 use Rattle.labelling.specs.Day.{outputAfter}
 use Rattle.labelling.specs.declared.Labelling.{Labelling}
 use Rattle.labelling.proofs.WrittenFile.{end-is}
@@ -25,7 +26,7 @@ use Rattle.no_leak.specs.Alike.{AlikeDays}
 use Rattle.no_leak.specs.Files.{SameFiles, FilesBy}
 use Rattle.no_leak.specs.Packets.{AlikeStates, SameSizes, SamePacket, CutAlike, PacketByPacket, InPackets}
 use Rattle.no_leak.proofs.AlikeRecords.{same-number, pending-alike}
-use Rattle.no_leak.proofs.AtOnce.{at-once}
+use Rattle.no_leak.proofs.AtOnce.{labels-number, at-once}
 use Rattle.no_leak.proofs.PacketSteps.{states-refl, one-packet, closing-alike}
 
 -- ---- packets one after another
@@ -78,14 +79,15 @@ all-taken d e (g ∷ gs) (h ∷ hs) states cut packets accepted =
 over-itself : (el : Elements) (telemetry file : List ℕ) (counts : Counts) → OneGo el telemetry file counts → outputAfter el telemetry file ≡ file
 over-itself el telemetry file counts o = o .written file (omega arith) ∙ ap (λ (l : List ℕ). file ++ l) (drop-length file) ∙ append-nil file
 
-finished : (el : Elements) (one two file file' : List ℕ) (counts counts' : Counts) → AlikeDays el one two → OneGo el one file counts → OneGo el two file' counts' → SameFiles 0 (counts .labels) (length file) file file'
+pub finished : (el : Elements) (one two file file' : List ℕ) (counts counts' : Counts) → AlikeDays el one two → OneGo el one file counts → OneGo el two file' counts' → SameFiles 0 (records one) (length file) file file'
 finished el one two file file' counts counts' alike o o' =
     let labelled = o .accepted (length file) (omega arith) in
     let labelled' = o' .accepted (length file') (omega arith) in
     let as-long = end-is el one file counts (length file) labelled ∙ ap (distanceBack Bytes24) (same-number el one two alike) ∙ sym (end-is el two file' counts' (length file') labelled') in
-    subst (λ (l : List ℕ). SameFiles 0 (counts .labels) (length file) l file') (over-itself el one file counts o)
-    (subst (λ (l : List ℕ). SameFiles 0 (counts .labels) (length file) (outputAfter el one file) l) (over-itself el two file' counts' o')
-    (subst (λ (a : Labelling). FilesBy a 0 (outputAfter el one file) (outputAfter el two file')) labelled (at-once el one two file file' alike as-long .same-files)))
+    let files = subst (λ (a : Labelling). FilesBy a 0 (outputAfter el one file) (outputAfter el two file')) labelled (at-once el one two file file' alike as-long .same-files) in
+    rw (sym (labels-number el one (length file) counts (length file) labelled))
+    (subst (λ (l : List ℕ). SameFiles 0 (counts .labels) (length file) l file') (over-itself el one file counts o)
+    (subst (λ (l : List ℕ). SameFiles 0 (counts .labels) (length file) (outputAfter el one file) l) (over-itself el two file' counts' o') files))
 
 pub in-packets : InPackets
 in-packets el gs hs last last' opened alike cut same-room =

@@ -27,6 +27,7 @@ use Rattle.packets.specs.declared.Outcome.the-variants.{Accepted}
 use Rattle.packets.specs.declared.Step.{Step}
 use Rattle.packets.specs.Day.{isPassed, dayAllowed}
 use Rattle.packets.specs.Packet.{pending, completed, nextDay, refusedStep, packetStep, packetLabels, packetOutput, outputBy}
+use Rattle.packets.specs.Contract.{AllowedDay}
 use Rattle.packets.specs.Closing.{closedDay, closingStep, closingOutput}
 use Rattle.packets.specs.Cutting.{Given}
 use Rattle.packets.proofs.AllowedDays.{allowed-says}
@@ -51,11 +52,10 @@ closed-alike : (d e : Day) → AlikeStates d e → AlikeStates (closedDay d) (cl
 unfolding closedDay
 closed-alike d e s = record { same-elements = s .same-elements; same-counts = s .same-counts; same-closed = refl; same-have = s .same-have }
 
--- 24 does not look at the bytes held
-allowed-elements : (d : Day) → dayAllowed d ≡ true → checked (d .elements) ≡ Passed
+-- what 24 leaves of a state, whatever bytes are held: it does not look at them
+pub allowed-bare : (d : Day) → dayAllowed d ≡ true → AllowedDay (record { elements = d .elements; counts = d .counts; closed = d .closed; have = d .have; held = replicate 15 0 })
 unfolding dayAllowed
-allowed-elements d e =
-    allowed-says (record { elements = d .elements; counts = d .counts; closed = d .closed; have = d .have; held = replicate 15 0 }) refl e .elements
+allowed-bare d e = allowed-says (record { elements = d .elements; counts = d .counts; closed = d .closed; have = d .have; held = replicate 15 0 }) refl e
 
 -- ---- a step by the tests of its refusals, in their order
 
@@ -119,7 +119,7 @@ module _ (d e : Day) (g h : Given) (states : AlikeStates d e) (sizes : SameSizes
       let el = d .elements in
       let n = completed d (g .packet) in
       let whole = taken-whole d (g .packet) (length (g .output)) accepted in
-      let c = allowed-elements d (whole .allowed) in
+      let c = allowed-bare d (whole .allowed) .elements in
       let passing : (k : ℕ) → k < n → passesAt el one k ≡ true = λ k b. leading-holds (passesAt el one) n k (omega (arith, whole .all)) in
       let written : packetOutput d (g .packet) (g .output) ≡ bodyOf (labelAt el one) n ++ drop (length (packetLabels d (g .packet))) (g .output) = ap (λ (o : Outcome). outputBy o (packetLabels d (g .packet)) (g .output)) accepted in
       let written' : packetOutput e (h .packet) (h .output) ≡ bodyOf (labelAt el two) n ++ drop (length (packetLabels e (h .packet))) (h .output) =

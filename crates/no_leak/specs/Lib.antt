@@ -3,4 +3,5 @@ pub mod Files
 pub mod AtOnce
 pub mod Adding
 pub mod Packets
+pub mod Calls
 pub mod Examples

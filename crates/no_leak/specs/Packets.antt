@@ -6,6 +6,7 @@ use lib.ListN.{length, take}
 use Rattle.elements.specs.declared.Elements.{Elements}
 use Rattle.trailer.specs.Trailer.{trailerSize}
 use Rattle.trailer.specs.declared.Form.the-variants.{Bytes24}
+use Rattle.labelling.specs.Records.{records}
 use Rattle.packets.specs.declared.Day.{Day}
 use Rattle.packets.specs.declared.Outcome.{Outcome}
 use Rattle.packets.specs.declared.Outcome.the-variants.{Accepted}
@@ -76,7 +77,7 @@ pub record SameDay (d : Day) (gs hs : List Given) (last last' : List ℕ) : Type
   pub all-accepted : AllAccepted d hs
   pub same-closing : SameClosing (dayFrom d gs) (dayFrom d hs) last last'
   pub same-files : closingStep (dayFrom d gs) (length last) .outcome ≡ Accepted
-      → SameFiles 0 (dayFrom d gs .counts .labels) (length (fileFrom d gs last)) (fileFrom d gs last) (fileFrom d hs last')
+      → SameFiles 0 (records (allBytes gs)) (length (fileFrom d gs last)) (fileFrom d gs last) (fileFrom d hs last')
 
 pub record NoLeakIn (d : Day) (gs hs : List Given) (last last' : List ℕ) : Type 0 where
   pub packet-by-packet : PacketByPacket d d gs hs

@@ -59,7 +59,7 @@ lengths-hold true outcome buffer e = refl
 lengths-hold false outcome buffer e = absurd (omega arith)
 
 -- of yurdelmiz_packet and yurdelmiz_close: the step was accepted, and the bytes are those of its output and its state
-step-by : (call : BufferCall) (o : Outcome) (d : Day) (after : List ℕ) → BufferEnding (stepOutcome o d after) call → (o ≡ Accepted) × (call .buffer ≡ after) × (call .answer ≡ dayBytes d)
+pub step-by : (call : BufferCall) (o : Outcome) (d : Day) (after : List ℕ) → BufferEnding (stepOutcome o d after) call → (o ≡ Accepted) × (call .buffer ≡ after) × (call .answer ≡ dayBytes d)
 step-by call (Refused refusal place) d after g = absurd (omega (arith, never-0 refusal))
 step-by call Accepted d after g = (refl, g .0, g .1)
 
@@ -152,7 +152,7 @@ module _ (elements day : List ℕ) (below : (i : ℕ) → getD elements i 0 < 25
     unfolding trailerSize
     file-is = λ i. (all .labels-are ∙ ap (λ (x : Day). labelsFrom x hs) first) i ++ take 24 ((closed .1 ∙ ap (λ (x : Day). closingOutput x last) last-is) i)
 
-    one-go : OneGo (elementsOf elements) (allBytes hs) (labelsCalled (openCall elements day .answer) hs ++ take 24 (closeCall (dayCalled (openCall elements day .answer) hs) last .buffer)) (dayFrom (openingStep (elementsOf elements) .day) hs .counts)
+    pub one-go : OneGo (elementsOf elements) (allBytes hs) (labelsCalled (openCall elements day .answer) hs ++ take 24 (closeCall (dayCalled (openCall elements day .answer) hs) last .buffer)) (dayFrom (openingStep (elementsOf elements) .day) hs .counts)
     one-go =
         let closing = ap (λ (x : Day). closingStep x (length last) .outcome) (sym last-is) ∙ closed .0 in
         subst (λ (f : List ℕ). OneGo el (allBytes hs) f (dayFrom (openingStep el .day) hs .counts)) (sym file-is)

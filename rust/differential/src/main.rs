@@ -1,4 +1,4 @@
-//! Compares the proved library with the reference on random, edge and damaged inputs.
+//! Compares the proved library with the reference on random, edge and damaged inputs, and with itself on alike days.
 //!
 //!     differential [--seed N] [--count N]
 //!

@@ -1,0 +1,104 @@
+-- No leak, by the statuses and bytes of the C calls: include/yurdelmiz.h. Assumes nothing.
+use mathlib.Core.Path.{_≡_}
+use Prim.Native.Nat.{ℕ, _+_}
+use mathlib.Core.List.{List, _++_}
+use lib.ListN.{length, take, drop}
+use Rattle.label.specs.Codec.{AllBytes}
+use Rattle.trailer.specs.Trailer.{distanceBack}
+use Rattle.trailer.specs.declared.Counts.{Counts}
+use Rattle.trailer.specs.declared.Form.{Form}
+use Rattle.trailer.specs.declared.Form.the-variants.{Bytes24}
+use Rattle.labelling.specs.Records.{records}
+use Rattle.packets.specs.Packet.{pending, completed}
+use Rattle.packets.specs.Cutting.{Given, allBytes}
+use Rattle.buffers.specs.Answers.{addBytes}
+use Rattle.buffers.specs.Buffers.{elementsOf}
+use Rattle.day_buffer.specs.State.{dayOf}
+use Rattle.statuses.specs.Call.{BufferCall}
+use Rattle.yurdelmiz.specs.Calls.{labelCall, addCall, scaleCall, openCall, closeCall}
+use Rattle.yurdelmiz.specs.CutDay.{takes, dayCalled, AllEnd, labelsCalled}
+use Rattle.no_leak.specs.Alike.{AlikeDays}
+use Rattle.no_leak.specs.Files.{SameTraining}
+use Rattle.no_leak.specs.Adding.{fileFor}
+use Rattle.no_leak.specs.Packets.{AlikeStates, SameSizes}
+
+-- two label files in buffers: the training labels; and the status and the bytes that yurdelmiz_scale gives with any figures
+pub record SameCalled (first n size : ℕ) (one two : List ℕ) : Type 0 where
+  pub same-training : SameTraining (drop first one) (drop first two) n
+  pub same-figures : (figures : List ℕ) → scaleCall figures one size ≡ scaleCall figures two size
+
+-- ---- yurdelmiz_label
+
+-- the same status, and with status 0 the files
+pub record LabelledAlike (elements one two output output' : List ℕ) : Type 0 where
+  pub same-status : labelCall elements one output .status ≡ labelCall elements two output' .status
+  pub same-files : labelCall elements one output .status ≡ 0
+      → SameCalled 0 (records one) (distanceBack Bytes24 (records one)) (labelCall elements one output .answer) (labelCall elements two output' .answer)
+
+-- theorem `label-calls`
+abbrev pub LabelCalls : Type 0
+LabelCalls =
+    (elements one two output output' : List ℕ) → AlikeDays (elementsOf elements) one two → length output ≡ length output'
+    → LabelledAlike elements one two output output'
+
+-- ---- yurdelmiz_add
+
+-- the same status and the same answer, which states the counts and the size of the file; and with status 0 the files
+pub record AddedAlike (first : ℕ) (call call' : BufferCall) : Type 0 where
+  pub counts : Counts
+  pub size : ℕ
+  pub answer-is : call .answer ≡ addBytes counts size
+  pub same-answer : call .answer ≡ call' .answer
+  pub same-files : SameCalled first (counts .labels) size (call .buffer) (call' .buffer)
+
+-- as for adding, the first part having been labelled by yurdelmiz_label (theorem `add-calls`)
+abbrev pub AddCalls : Type 0
+AddCalls =
+    (elements one two more more' front front' rest rest' output answer answer' : List ℕ) (form : Form) →
+    let el = elementsOf elements in
+    let file = fileFor el form one in
+    let file' = fileFor el form two in
+    let call = addCall elements (front ++ (file ++ rest)) (length front + length file) more answer in
+    let call' = addCall elements (front' ++ (file' ++ rest')) (length front' + length file') more' answer' in
+    AlikeDays el one two → labelCall elements one output .status ≡ 0 → AlikeDays el more more' → length front ≡ length front' → length rest ≡ length rest' → length answer ≡ length answer'
+    → (call .status ≡ call' .status) × (call .status ≡ 0 → AddedAlike (length front) call call')
+
+-- ---- yurdelmiz_packet and yurdelmiz_close
+
+-- the same status, with status 0 the training labels, and the states in `day` afterwards, which a refusal leaves
+pub record TakenAlike (day day' : List ℕ) (g h : Given) : Type 0 where
+  pub same-status : takes day g .status ≡ takes day' h .status
+  pub same-training : takes day g .status ≡ 0 → SameTraining (takes day g .buffer) (takes day' h .buffer) (completed (dayOf day) (g .packet))
+  pub alike-states : AlikeStates (dayOf (takes day g .answer)) (dayOf (takes day' h .answer))
+
+-- from any two alike states, as for one packet (theorem `packet-calls`)
+abbrev pub PacketCalls : Type 0
+PacketCalls =
+    (day day' : List ℕ) (g h : Given) → AllBytes day → AllBytes day' → length day ≡ length day' → AlikeStates (dayOf day) (dayOf day') → SameSizes g h
+    → AlikeDays (dayOf day .elements) (pending (dayOf day) (g .packet)) (pending (dayOf day') (h .packet)) → TakenAlike day day' g h
+
+-- the same status, and with status 0 the same trailer (theorem `close-calls`)
+abbrev pub CloseCalls : Type 0
+CloseCalls =
+    (day day' last last' : List ℕ) → length day ≡ length day' → AlikeStates (dayOf day) (dayOf day') → length last ≡ length last'
+    → (closeCall day last .status ≡ closeCall day' last' .status) × (closeCall day last .status ≡ 0 → take 24 (closeCall day last .buffer) ≡ take 24 (closeCall day' last' .buffer))
+
+-- the labels of the calls one after another, and the trailer
+abbrev pub fileCalled : List ℕ → List Given → List ℕ → List ℕ
+fileCalled day gs last = labelsCalled day gs ++ take 24 (closeCall (dayCalled day gs) last .buffer)
+
+-- each call of the two days ends with status 0
+pub record AllEndAlike (elements day : List ℕ) (gs hs : List Given) (last last' : List ℕ) : Type 0 where
+  pub opened : openCall elements day .status ≡ 0
+  pub packets : AllEnd (openCall elements day .answer) gs
+  pub packets' : AllEnd (openCall elements day .answer) hs
+  pub closed : closeCall (dayCalled (openCall elements day .answer) gs) last .status ≡ 0
+  pub closed' : closeCall (dayCalled (openCall elements day .answer) hs) last' .status ≡ 0
+
+-- the finished files of alike days (theorem `day-calls`)
+abbrev pub DayCalls : Type 0
+DayCalls =
+    (elements day : List ℕ) (gs hs : List Given) (last last' : List ℕ) →
+    let one = fileCalled (openCall elements day .answer) gs last in
+    let two = fileCalled (openCall elements day .answer) hs last' in
+    AllBytes elements → AllEndAlike elements day gs hs last last' → AlikeDays (elementsOf elements) (allBytes gs) (allBytes hs) → SameCalled 0 (records (allBytes gs)) (length one) one two
