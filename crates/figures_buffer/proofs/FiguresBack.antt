@@ -1,11 +1,10 @@
 -- The bytes of figures say the figures again, and 48 zero bytes those of nothing. Assumes nothing.
 use mathlib.Core.Path.{_≡_, refl, ap, _∙_}
-use Prim.Native.Nat.{ℕ, _+_, _*_, _^_, _≤_, _<_}
+use Prim.Native.Nat.{ℕ, _*_, _^_, _<_}
 use native.Mathlib.Omega.{arith}
-use mathlib.Core.List.{List, _++_}
 use lib.Ieee.{Float, binary32, ofBits, toBits}
 use lib.Ieee.Bits.{ofBits-toBits, toBits-lt}
-use lib.ListN.{getD, replicate}
+use lib.ListN.{replicate}
 use mir.Syntax.{w64}
 use mir.Val.{SFits, ofZ, toZ}
 use Rattle.integer.proofs.Bounds.{within-more, sfits-within}
@@ -17,7 +16,7 @@ use Rattle.extreme.specs.declared.Extreme.the-variants.{Nothing, Held}
 use Rattle.scale.specs.Figures.{nothing}
 use Rattle.scale.specs.Contract.{Made}
 use Rattle.scale.specs.declared.Figures.{Figures}
-use Rattle.figures_buffer.specs.FigureBytes.{extremeAt, figuresIn, extremeBytes, figuresBytes}
+use Rattle.figures_buffer.specs.FigureBytes.{extremeAt, figuresIn, figuresBytes}
 
 pub zeros-nothing : figuresIn (replicate 48 0) ≡ nothing
 unfolding figuresIn extremeAt nothing

@@ -1,8 +1,7 @@
 -- The lengths of what is stored. Assumes nothing.
-use mathlib.Core.Path.{_≡_, refl, ap, _∙_}
+use mathlib.Core.Path.{_≡_, refl, _∙_}
 use mathlib.Core.List.{List, _++_}
 use Prim.Native.Nat.{ℕ, _+_}
-use native.Mathlib.Omega.{arith}
 use lib.ListN.{length, length-append}
 use mir.Syntax.{w64}
 use mir.Val.{ofZ}
@@ -17,9 +16,9 @@ unfolding bytes4
 extreme-length Nothing = refl
 extreme-length (Held x) = refl
 
--- with an extreme behind
-pub extreme-behind : (l : List ℕ) (e : Extreme) {k : ℕ} → length l ≡ k → length (l ++ extremeBytes e) ≡ k + 8
-extreme-behind l e h = length-append l (extremeBytes e) ∙ (λ i. h i + extreme-length e i)
+-- with eight bytes behind
+pub eight-behind : (l piece : List ℕ) {k : ℕ} → length piece ≡ 8 → length l ≡ k → length (l ++ piece) ≡ k + 8
+eight-behind l piece e h = length-append l piece ∙ (λ i. h i + e i)
 
 -- the four counts
 abbrev pub countBytes : Figures → List ℕ
@@ -29,15 +28,16 @@ pub counts-length : (f : Figures) → length (countBytes f) ≡ 16
 unfolding bytes4
 counts-length f = refl
 
--- with a total behind
-pub total-behind : (l : List ℕ) (n : ℕ) {k : ℕ} → length l ≡ k → length (l ++ bytes8 n) ≡ k + 8
+pub total-length : (n : ℕ) → length (bytes8 n) ≡ 8
 unfolding bytes8 bytes4
-total-behind l n h = length-append l (bytes8 n) ∙ (λ i. h i + 8)
+total-length n = refl
 
 pub figures-length : (f : Figures) → length (figuresBytes f) ≡ 48
 unfolding figuresBytes
 figures-length f =
     let one = countBytes f ++ extremeBytes (f .least) in
     let both = one ++ extremeBytes (f .greatest) in
-    let both-long = extreme-behind one (f .greatest) (extreme-behind (countBytes f) (f .least) (counts-length f)) in
-    total-behind (both ++ bytes8 (ofZ w64 (f .sines))) (f .squares) (total-behind both (ofZ w64 (f .sines)) both-long)
+    let sum = both ++ bytes8 (ofZ w64 (f .sines)) in
+    eight-behind sum (bytes8 (f .squares)) (total-length _)
+    (eight-behind both (bytes8 (ofZ w64 (f .sines))) (total-length _)
+    (eight-behind one (extremeBytes (f .greatest)) (extreme-length (f .greatest)) (eight-behind (countBytes f) (extremeBytes (f .least)) (extreme-length (f .least)) (counts-length f))))

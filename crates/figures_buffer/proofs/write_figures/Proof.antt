@@ -9,7 +9,7 @@ use mir.Facts.{toZ-ofZ}
 use Rattle.endian.specs.LittleEndian.{bytes4, bytes8}
 use Rattle.endian.proofs.Stores.{then, over-all}
 use Rattle.figures_buffer.specs.FigureBytes.{extremeBytes, figuresBytes}
-use Rattle.figures_buffer.proofs.StoredFigures.{countBytes, counts-length, extreme-behind, total-behind, figures-length}
+use Rattle.figures_buffer.proofs.StoredFigures.{extreme-length, eight-behind, countBytes, counts-length, total-length, figures-length}
 use Rattle.figures_buffer.proofs.write_figures.Statement.{statement}
 use Rattle.figures_buffer.proofs.write_figures.Tie as tie
 
@@ -36,12 +36,12 @@ returns c =
     let one = countBytes f ++ extremeBytes (f .least) in
     let both = one ++ extremeBytes (f .greatest) in
     let sum = both ++ bytes8 (ofZ w64 (f .sines)) in
-    let one-long = extreme-behind (countBytes f) (f .least) (counts-length f) in
-    let both-long = extreme-behind one (f .greatest) one-long in
+    let one-long = eight-behind (countBytes f) (extremeBytes (f .least)) (extreme-length (f .least)) (counts-length f) in
+    let both-long = eight-behind one (extremeBytes (f .greatest)) (extreme-length (f .greatest)) one-long in
     let at-16 = then l _ _ 0 16 (countBytes f) (extremeBytes (f .least)) (counts-length f) counts (least .write-extreme .ensures) in
     let at-24 = then l _ _ 0 24 one (extremeBytes (f .greatest)) one-long at-16 (greatest .write-extreme2 .ensures) in
     let at-32 = then l _ _ 0 32 both (bytes8 (ofZ w64 (f .sines))) both-long at-24 (rw (toZ-ofZ (sines-fit s)) at (sines .write-i64 .ensures)) in
-    then l _ _ 0 40 sum (bytes8 (f .squares)) (total-behind both (ofZ w64 (f .sines)) both-long) at-32 (last .write-u64 .ensures)
+    then l _ _ 0 40 sum (bytes8 (f .squares)) (eight-behind both (bytes8 (ofZ w64 (f .sines))) (total-length _) both-long) at-32 (last .write-u64 .ensures)
     ∙ over-all l (figuresBytes f) (s .pre ∙ sym (figures-length f))
 
 pub write-figures-spec : {M : Type 1} → statement M
