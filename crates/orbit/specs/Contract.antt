@@ -1,7 +1,7 @@
 -- What the functions ask and owe. Assumes nothing.
 use mathlib.Core.Path.{_≡_}
-use Prim.Native.Nat.{ℕ, _*_, _^_, _≤_}
-use lib.IntN.{ℤ, natAbs}
+use Prim.Native.Nat.{ℕ, _^_, _≤_}
+use lib.IntN.{ℤ}
 use Rattle.integer.specs.Bound.{Within}
 use Rattle.trig.specs.Contract.{SinesAt}
 use Rattle.kepler.specs.Bracket.{Bracketed}

@@ -4,17 +4,14 @@ use Prim.Native.Nat.{ℕ}
 use mathlib.Core.List.{List, [], _∷_, _++_, foldl, foldl-append, append-nil, append-assoc}
 use borrow.Author.Tests.{eq-eqb}
 use lib.ListN.{replicate}
-use mir.Syntax.{w64}
-use mir.Val.{ofZ}
 use Rattle.endian.specs.LittleEndian.{bytes4, bytes8}
-use Rattle.scale.specs.declared.Figures.{Figures}
 use Rattle.scale.specs.declared.Scaling.{Scaling}
 use Rattle.scale.specs.declared.Scaling.the-variants.{Added, Refused}
 use Rattle.scale.specs.Figures.{nothing}
 use Rattle.scale.specs.Step.{scaling}
 use Rattle.scale.specs.Files.{Given, afterwards, afterOne, after}
 use Rattle.scale.proofs.ManyFiles.{sums, made}
-use Rattle.figures_buffer.specs.FigureBytes.{figuresIn, figuresBytes}
+use Rattle.figures_buffer.specs.FigureBytes.{figuresBytes}
 use Rattle.figures_buffer.proofs.StoredFigures.{figures-length}
 use Rattle.figures_buffer.proofs.FiguresBack.{figures-back}
 use Rattle.statuses.specs.Call.{Call, ended}

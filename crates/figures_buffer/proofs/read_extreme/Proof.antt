@@ -1,5 +1,4 @@
 -- `figures_buffer::read_extreme` meets its contract. Assumes nothing.
-use mathlib.Core.Path.{sym, _∙_}
 use borrow.Author.Needs.{needs}
 use borrow.Author.Tests.{eq-eqb, ne-eqb}
 use Rattle.figures_buffer.specs.FigureBytes.{extremeAt}

@@ -1,8 +1,6 @@
 -- `figures_buffer::write_extreme` meets its contract. Assumes nothing.
-use mathlib.Core.Path.{refl}
 use borrow.Author.Needs.{needs}
 use denote.Ref.{now}
-use lib.Ieee.{binary32, toBits}
 use Rattle.endian.specs.LittleEndian.{bytes4}
 use Rattle.endian.proofs.Stores.{then, length-bytes4}
 use Rattle.figures_buffer.proofs.write_extreme.Statement.{statement}
