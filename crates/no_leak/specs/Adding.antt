@@ -1,4 +1,5 @@
--- No leak in telemetry that is added to a file. Assumes nothing.
+-- No leak in telemetry that is added to a file. `adding` is what `labelling::add` answers, and `bufferAfter` the buffer afterwards, by its
+-- contract. Assumes nothing.
 use mathlib.Core.Path.{_≡_}
 use Prim.Native.Nat.{ℕ, _+_}
 use mathlib.Core.List.{List, _++_}

@@ -1,4 +1,5 @@
--- No leak in a day that is labelled at once. Assumes nothing.
+-- No leak in a day that is labelled at once. `labelling` is what `labelling::label_day` answers, and `outputAfter` the output afterwards, by
+-- its contract. Assumes nothing.
 use mathlib.Core.Path.{_≡_}
 use Prim.Native.Nat.{ℕ}
 use mathlib.Core.List.{List}

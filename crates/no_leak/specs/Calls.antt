@@ -1,4 +1,5 @@
--- No leak, by the statuses and bytes of the C calls: include/yurdelmiz.h. Assumes nothing.
+-- No leak, by the statuses and bytes of the C calls: include/yurdelmiz.h. `labelCall` is what `yurdelmiz_label` gives, by its contract, and
+-- so for the others. Assumes nothing.
 use mathlib.Core.Path.{_≡_}
 use Prim.Native.Nat.{ℕ, _+_}
 use mathlib.Core.List.{List, _++_}

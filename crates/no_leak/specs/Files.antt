@@ -1,4 +1,4 @@
--- What alike days leave the same in two label files. Assumes nothing.
+-- What alike days leave the same in two label files. `scaling` is what `scale::add_file` gives, by its contract. Assumes nothing.
 use mathlib.Core.Path.{_≡_}
 use Prim.Native.Nat.{ℕ, _<_}
 use mathlib.Core.List.{List}
@@ -11,7 +11,8 @@ use Rattle.scale.specs.declared.Figures.{Figures}
 use Rattle.labelling.specs.declared.Labelling.{Labelling}
 use Rattle.labelling.specs.declared.Labelling.the-variants.{Labelled, Refused}
 
--- n labels from the start of some bytes, and n of others: each has the side of its twin, and each training label its 24 bytes
+-- n labels from the start of some bytes, and n from the start of others: those of one number have one side, and on the training side the
+-- same 24 bytes
 pub record SameTraining (one two : List ℕ) (n : ℕ) : Type 0 where
   pub same-sides : (k : ℕ) → k < n → heldAt one k .side ≡ heldAt two k .side
   pub same-bytes : (k : ℕ) → k < n → heldAt one k .side ≡ training → partAt one k ≡ partAt two k

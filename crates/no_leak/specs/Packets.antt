@@ -1,4 +1,5 @@
--- No leak in a day that comes in packets. Assumes nothing.
+-- No leak in a day that comes in packets. `packetStep` and `closingStep` are what `packets::take_packet` and `packets::close_day` give, and
+-- `packetOutput` and `closingOutput` the outputs afterwards, by their contracts. Assumes nothing.
 use mathlib.Core.Path.{_≡_}
 use Prim.Native.Nat.{ℕ}
 use mathlib.Core.List.{List, [], _∷_}
