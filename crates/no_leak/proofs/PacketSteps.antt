@@ -1,7 +1,7 @@
 -- Alike days in packets that are cut alike: one packet, closing, packets one after another, and the finished files. Assumes nothing.
 use mathlib.Core.Path.{_≡_, refl, sym, ap, subst, _∙_}
 use mathlib.Core.Bool.{Bool, true, false, not, _&&_, cond}
-use mathlib.Core.List.{List, _++_}
+use mathlib.Core.List.{List, [], _∷_, _++_}
 use Prim.Native.Nat.{ℕ, _+_, _*_, _<_}
 use native.Mathlib.Omega.{arith}
 use lib.Dec.{eqb, leb, ltb}
@@ -29,12 +29,12 @@ use Rattle.packets.specs.Day.{isPassed, dayAllowed}
 use Rattle.packets.specs.Packet.{pending, completed, nextDay, refusedStep, packetStep, packetLabels, packetOutput, outputBy}
 use Rattle.packets.specs.Contract.{AllowedDay}
 use Rattle.packets.specs.Closing.{closedDay, closingStep, closingOutput}
-use Rattle.packets.specs.Cutting.{Given}
+use Rattle.packets.specs.Cutting.{Given, dayBehind}
 use Rattle.packets.proofs.AllowedDays.{allowed-says}
 use Rattle.packets.proofs.Steps.{taken-whole}
 use Rattle.no_leak.specs.Alike.{AlikeDays}
 use Rattle.no_leak.specs.Files.{SameTraining}
-use Rattle.no_leak.specs.Packets.{AlikeStates, SameSizes, outcomeOf, OnePacket, SameClosing}
+use Rattle.no_leak.specs.Packets.{AlikeStates, SameSizes, outcomeOf, OnePacket, GivenAlike, TakenAlike, ManyPackets, SameClosing}
 use Rattle.no_leak.proofs.AlikeRecords.{same-number, same-leading, same-counts, rules-one, rules-two, same-training}
 use Rattle.no_leak.proofs.FilesInBuffers.{parts-alike}
 
@@ -135,6 +135,14 @@ one-packet d e g h states sizes alike =
       same-training = training-labels d e g h states sizes alike;
       alike-states = step d e g h states sizes alike .alike-days;
     }
+
+pub many-packets : ManyPackets
+unfolding GivenAlike TakenAlike
+many-packets d e [] hs states alike = tt
+many-packets d e (g ∷ gs) [] states alike = tt
+many-packets d e (g ∷ gs) (h ∷ hs) states alike =
+    let same = one-packet d e g h states (alike .0) (alike .1) in
+    (same, many-packets (dayBehind d g) (dayBehind e h) gs hs (same .alike-states) (alike .2))
 
 -- ---- closing
 

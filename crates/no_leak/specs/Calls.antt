@@ -67,7 +67,7 @@ AddCalls =
 -- ---- yurdelmiz_packet and yurdelmiz_close
 
 -- the same status, with status 0 the training labels, and the states in `day` afterwards, which a refusal leaves
-pub record TakenAlike (day day' : List ℕ) (g h : Given) : Type 0 where
+pub record PacketAlike (day day' : List ℕ) (g h : Given) : Type 0 where
   pub same-status : takes day g .status ≡ takes day' h .status
   pub same-training : takes day g .status ≡ 0 → SameTraining (takes day g .buffer) (takes day' h .buffer) (completed (dayOf day) (g .packet))
   pub alike-states : AlikeStates (dayOf (takes day g .answer)) (dayOf (takes day' h .answer))
@@ -76,7 +76,7 @@ pub record TakenAlike (day day' : List ℕ) (g h : Given) : Type 0 where
 abbrev pub PacketCalls : Type 0
 PacketCalls =
     (day day' : List ℕ) (g h : Given) → AllBytes day → AllBytes day' → length day ≡ length day' → AlikeStates (dayOf day) (dayOf day') → SameSizes g h
-    → AlikeDays (dayOf day .elements) (pending (dayOf day) (g .packet)) (pending (dayOf day') (h .packet)) → TakenAlike day day' g h
+    → AlikeDays (dayOf day .elements) (pending (dayOf day) (g .packet)) (pending (dayOf day') (h .packet)) → PacketAlike day day' g h
 
 -- the same status, and with status 0 the same trailer (theorem `close-calls`)
 abbrev pub CloseCalls : Type 0

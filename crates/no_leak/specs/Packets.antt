@@ -43,12 +43,31 @@ pub record SamePacket (d e : Day) (g h : Given) : Type 0 where
       → SameTraining (packetOutput d (g .packet) (g .output)) (packetOutput e (h .packet) (h .output)) (completed d (g .packet))
   pub alike-states : AlikeStates (dayBehind d g) (dayBehind e h)
 
--- From any two alike states, where the pending bytes are alike: the records that the packets complete. Behind a refusal the states are
--- those before it, so this goes on for packets of which some are refused (theorem `one-packet`).
+-- from any two alike states, where the pending bytes are alike: the records that the packets complete (theorem `one-packet`)
 abbrev pub OnePacket : Type 0
 OnePacket =
     (d e : Day) (g h : Given) → AlikeStates d e → SameSizes g h → AlikeDays (d .elements) (pending d (g .packet)) (pending e (h .packet))
     → SamePacket d e g h
+
+-- ---- packets one after another, whichever of them are refused
+
+-- each two have the same sizes, and complete alike records
+unfoldable pub GivenAlike : Day → Day → List Given → List Given → Type 0
+GivenAlike d e [] [] = Unit {0}
+GivenAlike d e [] (h ∷ hs) = ⊥
+GivenAlike d e (g ∷ gs) [] = ⊥
+GivenAlike d e (g ∷ gs) (h ∷ hs) =
+    SameSizes g h × AlikeDays (d .elements) (pending d (g .packet)) (pending e (h .packet)) × GivenAlike (dayBehind d g) (dayBehind e h) gs hs
+
+-- each two are taken alike
+unfoldable pub TakenAlike : Day → Day → List Given → List Given → Type 0
+TakenAlike d e [] hs = Unit {0}
+TakenAlike d e (g ∷ gs) [] = Unit {0}
+TakenAlike d e (g ∷ gs) (h ∷ hs) = SamePacket d e g h × TakenAlike (dayBehind d g) (dayBehind e h) gs hs
+
+-- theorem `many-packets`
+abbrev pub ManyPackets : Type 0
+ManyPackets = (d e : Day) (gs hs : List Given) → AlikeStates d e → GivenAlike d e gs hs → TakenAlike d e gs hs
 
 -- ---- closing
 
@@ -67,7 +86,7 @@ CutAlike [] (h ∷ hs) = ⊥
 CutAlike (g ∷ gs) [] = ⊥
 CutAlike (g ∷ gs) (h ∷ hs) = SameSizes g h × CutAlike gs hs
 
--- packet by packet, up to the first that is refused, which leaves the state: the packets of a day are those that it accepts
+-- packet by packet, up to the first that is refused: what comes behind it completes other records than in the days joined
 unfoldable pub PacketByPacket : Day → Day → List Given → List Given → Type 0
 PacketByPacket d e [] hs = Unit {0}
 PacketByPacket d e (g ∷ gs) [] = Unit {0}
