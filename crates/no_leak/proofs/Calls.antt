@@ -5,7 +5,8 @@ use mathlib.Core.List.{List, _++_}
 use Prim.Native.Nat.{ℕ, _+_, _≤_}
 use native.Mathlib.Omega.{arith}
 use lib.Dec.{eqb}
-use lib.ListN.{length, take}
+use lib.ListN.{length, take, drop, replicate, length-append}
+use Rattle.endian.specs.LittleEndian.{bytes4, bytes8}
 use Rattle.elements.specs.declared.Elements.{Elements}
 use Rattle.label.specs.Codec.{AllBytes}
 use Rattle.trailer.specs.Counts.{countsOf}
@@ -19,15 +20,15 @@ use Rattle.labelling.specs.declared.Labelling.{Labelling}
 use Rattle.labelling.specs.declared.Labelling.the-variants as labelling
 use Rattle.labelling.proofs.WrittenFile.{end-is}
 use Rattle.scale.specs.declared.Scaling.{Scaling}
-use Rattle.packets.specs.Packet.{pending, completed, nextDay, packetStep, packetOutput}
+use Rattle.packets.specs.Packet.{pending, completed, unfinished, padded, nextDay, packetStep, packetOutput}
 use Rattle.packets.specs.Closing.{closingStep, closingOutput}
-use Rattle.packets.specs.Cutting.{dayBehind}
+use Rattle.packets.specs.Cutting.{Given, dayBehind}
 use Rattle.packets.specs.declared.Day.{Day}
 use Rattle.packets.specs.declared.Outcome.{Outcome}
 use Rattle.packets.specs.declared.Outcome.the-variants as step
 use Rattle.packets.specs.declared.Step.{Step}
 use Rattle.packets.proofs.Steps.{taken-whole}
-use Rattle.buffers.specs.Answers.{addBytes}
+use Rattle.buffers.specs.Answers.{words, elementsBytes, countsBytes, addBytes}
 use Rattle.buffers.specs.Buffers.{elementsOf}
 use Rattle.buffers.proofs.ElementsBack.{elements-held}
 use Rattle.day_buffer.specs.State.{dayOf, dayBytes}
@@ -37,19 +38,18 @@ use Rattle.statuses.specs.Call.{callOf, BufferOutcome, rejected, written, buffe
 use Rattle.yurdelmiz.specs.Calls.{labelOutcome, dayOutcome, labelCall, addOutcome, addCall, scaleOutcome, scaleCall, stepOutcome, packetCall, closeCall}
 use Rattle.yurdelmiz.specs.CutDay.{takes}
 use Rattle.yurdelmiz.proofs.AcceptedCalls.{Ending, accepted, BufferEnding, buffer-accepted, label-accepted, add-accepted}
-use Rattle.yurdelmiz.proofs.CutDays.{step-by, one-go}
+use Rattle.yurdelmiz.proofs.CutDays.{step-by}
 use Rattle.no_leak.specs.Files.{SameFiles, FilesBy}
 use Rattle.no_leak.specs.Adding.{fileFor}
-use Rattle.no_leak.specs.Packets.{AlikeStates, outcomeOf}
-use Rattle.no_leak.specs.Calls.{SameCalled, LabelCalls, AddCalls, PacketCalls, CloseCalls, DayCalls}
+use Rattle.no_leak.specs.Packets.{AlikeStates, outcomeOf, SamePacket}
+use Rattle.no_leak.specs.Calls.{SameCalled, LabelCalls, AddCalls, PacketAlike, PacketCalls, CloseCalls}
 use Rattle.no_leak.proofs.AtOnce.{labels-number, at-once}
 use Rattle.no_leak.proofs.Adding.{added}
 use Rattle.no_leak.proofs.PacketSteps.{allowed-bare, one-packet, closing-alike}
-use Rattle.no_leak.proofs.PacketDays.{finished}
 
 -- ---- yurdelmiz_scale
 
-files-called : {first n size : ℕ} {one two : List ℕ} → SameFiles first n size one two → SameCalled first n size one two
+pub files-called : {first n size : ℕ} {one two : List ℕ} → SameFiles first n size one two → SameCalled first n size one two
 unfolding scaleCall
 files-called s =
     record {
@@ -164,18 +164,35 @@ module _ (day day' output output' : List ℕ) (as-long : length day ≡ length d
       ∙ ap (λ (s : ℕ). cond (eqb (length day') 89) s 255) (step-status o' next next' after after')
       ∙ sym (status-is _ _ output' day')
 
-  -- the states in their answers
-  by-cases : (lengths : Bool) (o : Outcome) → AlikeStates (dayOf day) (dayOf day') → (o ≡ step.Accepted → AlikeStates (dayOf (dayBytes next)) (dayOf (dayBytes next')))
-      → AlikeStates (dayOf (bufferCallOf lengths (stepOutcome o next after) output day .answer)) (dayOf (bufferCallOf lengths (stepOutcome o next' after') output' day' .answer))
-  unfolding bufferCallOf
-  by-cases false o before behind = before
-  by-cases true (step.Refused refusal place) before behind = before
-  by-cases true step.Accepted before behind = behind refl
+  -- what holds of the days before them, and of the bytes of the states behind them, holds of their answers
+  module _ (R : List ℕ → List ℕ → Type 0) where
+    by-cases : (lengths : Bool) (o : Outcome) → R day day' → (o ≡ step.Accepted → R (dayBytes next) (dayBytes next'))
+        → R (bufferCallOf lengths (stepOutcome o next after) output day .answer) (bufferCallOf lengths (stepOutcome o next' after') output' day' .answer)
+    unfolding bufferCallOf
+    by-cases false o before behind = before
+    by-cases true (step.Refused refusal place) before behind = before
+    by-cases true step.Accepted before behind = behind refl
 
-  answers-alike : {o o' : Outcome} → o ≡ o' → AlikeStates (dayOf day) (dayOf day') → (o ≡ step.Accepted → AlikeStates (dayOf (dayBytes next)) (dayOf (dayBytes next')))
-      → AlikeStates (dayOf (bufferCallOf (eqb (length day) 89) (stepOutcome o next after) output day .answer)) (dayOf (bufferCallOf (eqb (length day') 89) (stepOutcome o' next' after') output' day' .answer))
-  answers-alike {o} {o'} same before behind =
-      rw (sym as-long, sym same) (by-cases (eqb (length day) 89) o before behind)
+    in-answers : {o o' : Outcome} → o ≡ o' → R day day' → (o ≡ step.Accepted → R (dayBytes next) (dayBytes next'))
+        → R (bufferCallOf (eqb (length day) 89) (stepOutcome o next after) output day .answer) (bufferCallOf (eqb (length day') 89) (stepOutcome o' next' after') output' day' .answer)
+    in-answers {o} {o'} same before behind = rw (sym as-long, sym same) (by-cases (eqb (length day) 89) o before behind)
+
+-- the bytes of a state are 74 and those held
+day-length : (d : Day) → length (dayBytes d) ≡ 74 + length (d .held)
+unfolding dayBytes elementsBytes countsBytes words bytes8 bytes4
+day-length d = omega arith
+
+-- behind an accepted packet, zeros fill up what is held
+held-length : (d : Day) (g : Given) → outcomeOf d g ≡ step.Accepted → length (dayBehind d g .held) ≡ dayBehind d g .have + length (drop {A = ℕ} (dayBehind d g .have) (replicate 15 0))
+unfolding nextDay padded
+held-length d g accepted =
+    let rest = unfinished (pending d (g .packet)) in
+    subst (λ (s : Step). length (s .day .held) ≡ s .day .have + length (drop {A = ℕ} (s .day .have) (replicate 15 0))) (sym (taken-whole d (g .packet) (length (g .output)) accepted .step-is))
+    (length-append rest (drop (length rest) (replicate 15 0)))
+
+bytes-as-long : (d e : Day) (g h : Given) → outcomeOf d g ≡ step.Accepted → outcomeOf e h ≡ step.Accepted → dayBehind d g .have ≡ dayBehind e h .have → length (dayBytes (dayBehind d g)) ≡ length (dayBytes (dayBehind e h))
+bytes-as-long d e g h accepted accepted' have =
+    day-length (dayBehind d g) ∙ ap (λ (n : ℕ). 74 + n) (held-length d g accepted ∙ (λ i. have i + length (drop {A = ℕ} (have i) (replicate 15 0))) ∙ sym (held-length e h accepted')) ∙ sym (day-length (dayBehind e h))
 
 -- the bytes of the state behind an accepted packet say it again
 next-back : (day packet : List ℕ) (room : ℕ) → AllBytes day → packetStep (dayOf day) packet room .outcome ≡ step.Accepted → dayOf (dayBytes (packetStep (dayOf day) packet room .day)) ≡ packetStep (dayOf day) packet room .day
@@ -188,12 +205,22 @@ next-back day packet room all e =
     let back = day-back (nextDay d packet) (elements-held day (all .byte)) (plus-bounded (d .counts) counts (allowed-bare d (whole .allowed) .bounded) (counts-bounded (labelAt (d .elements) (pending d packet)) (completed d packet))) few in
     subst (λ (x : Day). dayOf (dayBytes x) ≡ x) (sym (ap (λ (s : Step). s .day) (whole .step-is))) back
 
-pub packet-calls : PacketCalls
+-- what a packet call with status 0 gave
+pub packet-ended : (day : List ℕ) (g : Given) → takes day g .status ≡ 0
+    → (outcomeOf (dayOf day) g ≡ step.Accepted) × (takes day g .buffer ≡ packetOutput (dayOf day) (g .packet) (g .output)) × (takes day g .answer ≡ dayBytes (dayBehind (dayOf day) g))
 unfolding packetCall
-packet-calls day day' g h all all' as-long states sizes alike =
+packet-ended day g ended =
+    let d = dayOf day in
+    step-by (takes day g) (outcomeOf d g) (dayBehind d g) (packetOutput d (g .packet) (g .output)) (buffer-accepted _ _ (g .output) day ended)
+
+-- two packets that are taken alike, where the bytes of the states behind them say these again
+pub packet-called : (day day' : List ℕ) (g h : Given) → length day ≡ length day' → AlikeStates (dayOf day) (dayOf day') → SamePacket (dayOf day) (dayOf day') g h
+    → (outcomeOf (dayOf day) g ≡ step.Accepted → dayOf (dayBytes (dayBehind (dayOf day) g)) ≡ dayBehind (dayOf day) g)
+    → (outcomeOf (dayOf day') h ≡ step.Accepted → dayOf (dayBytes (dayBehind (dayOf day') h)) ≡ dayBehind (dayOf day') h) → PacketAlike day day' g h
+unfolding packetCall
+packet-called day day' g h as-long states same back back' =
     let d = dayOf day in
     let e = dayOf day' in
-    let same = one-packet d e g h states sizes alike in
     let next = dayBehind d g in
     let next' = dayBehind e h in
     let after = packetOutput d (g .packet) (g .output) in
@@ -202,12 +229,18 @@ packet-calls day day' g h all all' as-long states sizes alike =
     record {
       same-status = status;
       same-training = λ ended.
-          let t = step-by (takes day g) (outcomeOf d g) next after (buffer-accepted _ _ (g .output) day ended) in
-          let t' = step-by (takes day' h) (outcomeOf e h) next' after' (buffer-accepted _ _ (h .output) day' (sym status ∙ ended)) in
+          let t = packet-ended day g ended in
+          let t' = packet-ended day' h (sym status ∙ ended) in
           rw (t .1, t' .1) (same .same-training (t .0));
-      alike-states = answers-alike day day' (g .output) (h .output) as-long next next' after after' (same .same-outcome) states
-          (λ accepted. rw (next-back day (g .packet) (length (g .output)) all accepted, next-back day' (h .packet) (length (h .output)) all' (sym (same .same-outcome) ∙ accepted)) (same .alike-states));
+      as-long = in-answers day day' (g .output) (h .output) as-long next next' after after' (λ (a b : List ℕ). length a ≡ length b) (same .same-outcome) as-long
+          (λ accepted. bytes-as-long d e g h accepted (sym (same .same-outcome) ∙ accepted) (same .alike-states .same-have));
+      alike-states = in-answers day day' (g .output) (h .output) as-long next next' after after' (λ (a b : List ℕ). AlikeStates (dayOf a) (dayOf b)) (same .same-outcome) states
+          (λ accepted. rw (back accepted, back' (sym (same .same-outcome) ∙ accepted)) (same .alike-states));
     }
+
+pub packet-calls : PacketCalls
+packet-calls day day' g h all all' as-long states sizes alike =
+    packet-called day day' g h as-long states (one-packet (dayOf day) (dayOf day') g h states sizes alike) (next-back day (g .packet) (length (g .output)) all) (next-back day' (h .packet) (length (h .output)) all')
 
 pub close-calls : CloseCalls
 unfolding closeCall trailerSize
@@ -222,8 +255,3 @@ close-calls day day' last last' as-long states same-room =
           let t' = step-by (closeCall day' last') (closingStep e (length last') .outcome) (closingStep e (length last') .day) (closingOutput e last') (buffer-accepted _ _ last' day' (sym status ∙ ended)) in
           ap (take 24) (t .1) ∙ same .same-trailer (t .0) ∙ sym (ap (take 24) (t' .1)),
     )
-
-pub day-calls : DayCalls
-day-calls elements day gs hs last last' all ends alike =
-    files-called
-    (finished (elementsOf elements) _ _ _ _ _ _ alike (one-go elements day (all .byte) (ends .opened) gs last (ends .packets) (ends .closed)) (one-go elements day (all .byte) (ends .opened) hs last' (ends .packets') (ends .closed')))

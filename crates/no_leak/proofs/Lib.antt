@@ -7,3 +7,4 @@ pub mod PacketSteps
 pub mod PacketDays
 pub mod Examples
 pub mod Calls
+pub mod DayCalls

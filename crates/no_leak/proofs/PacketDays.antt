@@ -14,7 +14,6 @@ use Rattle.labelling.specs.Day.{outputAfter}
 use Rattle.labelling.specs.declared.Labelling.{Labelling}
 use Rattle.labelling.proofs.WrittenFile.{end-is}
 use Rattle.packets.specs.declared.Day.{Day}
-use Rattle.packets.specs.declared.Outcome.the-variants.{Accepted}
 use Rattle.packets.specs.Day.{openingStep}
 use Rattle.packets.specs.Packet.{pending, unfinished}
 use Rattle.packets.specs.SoFar.{dayAfter, SoFar}

@@ -10,7 +10,6 @@ use lib.Seq.{take-at}
 use Rattle.refusal.specs.declared.Refusal.the-variants as refusal
 use Rattle.elements.specs.Elements.{checked}
 use Rattle.elements.specs.declared.Elements.{Elements}
-use Rattle.elements.specs.declared.Verdict.the-variants.{Passed}
 use Rattle.telemetry.specs.Records.{recordSize}
 use Rattle.label.specs.Layout.{labelSize}
 use Rattle.trailer.specs.Sequence.{leading}

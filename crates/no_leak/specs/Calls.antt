@@ -2,7 +2,7 @@
 -- so for the others. Assumes nothing.
 use mathlib.Core.Path.{_≡_}
 use Prim.Native.Nat.{ℕ, _+_}
-use mathlib.Core.List.{List, _++_}
+use mathlib.Core.List.{List, [], _∷_, _++_}
 use lib.ListN.{length, take, drop}
 use Rattle.label.specs.Codec.{AllBytes}
 use Rattle.trailer.specs.Trailer.{distanceBack}
@@ -21,7 +21,7 @@ use Rattle.yurdelmiz.specs.CutDay.{takes, dayCalled, AllEnd, labelsCalled}
 use Rattle.no_leak.specs.Alike.{AlikeDays}
 use Rattle.no_leak.specs.Files.{SameTraining}
 use Rattle.no_leak.specs.Adding.{fileFor}
-use Rattle.no_leak.specs.Packets.{AlikeStates, SameSizes}
+use Rattle.no_leak.specs.Packets.{AlikeStates, SameSizes, CutAlike}
 
 -- two label files in buffers: the training labels; and the status and the bytes that yurdelmiz_scale gives with any figures
 pub record SameCalled (first n size : ℕ) (one two : List ℕ) : Type 0 where
@@ -66,10 +66,11 @@ AddCalls =
 
 -- ---- yurdelmiz_packet and yurdelmiz_close
 
--- the same status, with status 0 the training labels, and the states in `day` afterwards, which a refusal leaves
+-- the same status, with status 0 the training labels, and the states in `day` afterwards, which a refusal leaves, with as many bytes
 pub record PacketAlike (day day' : List ℕ) (g h : Given) : Type 0 where
   pub same-status : takes day g .status ≡ takes day' h .status
   pub same-training : takes day g .status ≡ 0 → SameTraining (takes day g .buffer) (takes day' h .buffer) (completed (dayOf day) (g .packet))
+  pub as-long : length (takes day g .answer) ≡ length (takes day' h .answer)
   pub alike-states : AlikeStates (dayOf (takes day g .answer)) (dayOf (takes day' h .answer))
 
 -- from any two alike states, as for one packet (theorem `packet-calls`)
@@ -88,18 +89,23 @@ CloseCalls =
 abbrev pub fileCalled : List ℕ → List Given → List ℕ → List ℕ
 fileCalled day gs last = labelsCalled day gs ++ take 24 (closeCall (dayCalled day gs) last .buffer)
 
--- each call of the two days ends with status 0
-pub record AllEndAlike (elements day : List ℕ) (gs hs : List Given) (last last' : List ℕ) : Type 0 where
-  pub opened : openCall elements day .status ≡ 0
-  pub packets : AllEnd (openCall elements day .answer) gs
-  pub packets' : AllEnd (openCall elements day .answer) hs
-  pub closed : closeCall (dayCalled (openCall elements day .answer) gs) last .status ≡ 0
-  pub closed' : closeCall (dayCalled (openCall elements day .answer) hs) last' .status ≡ 0
+-- packet by packet, up to the first call that does not end with status 0
+unfoldable pub CallByCall : List ℕ → List ℕ → List Given → List Given → Type 0
+CallByCall day day' [] hs = Unit {0}
+CallByCall day day' (g ∷ gs) [] = Unit {0}
+CallByCall day day' (g ∷ gs) (h ∷ hs) = PacketAlike day day' g h × (takes day g .status ≡ 0 → CallByCall (takes day g .answer) (takes day' h .answer) gs hs)
 
--- the finished files of alike days (theorem `day-calls`)
+-- where all packets of the first day end with status 0: so do those of the second; closing; and where that ends with status 0, the files
+pub record SameDayCalled (day : List ℕ) (gs hs : List Given) (last last' : List ℕ) : Type 0 where
+  pub all-end : AllEnd day hs
+  pub same-status : closeCall (dayCalled day gs) last .status ≡ closeCall (dayCalled day hs) last' .status
+  pub same-files : closeCall (dayCalled day gs) last .status ≡ 0
+      → SameCalled 0 (records (allBytes gs)) (length (fileCalled day gs last)) (fileCalled day gs last) (fileCalled day hs last')
+
+-- alike days that are cut alike, from one opening (theorem `day-calls`)
 abbrev pub DayCalls : Type 0
 DayCalls =
     (elements day : List ℕ) (gs hs : List Given) (last last' : List ℕ) →
-    let one = fileCalled (openCall elements day .answer) gs last in
-    let two = fileCalled (openCall elements day .answer) hs last' in
-    AllBytes elements → AllEndAlike elements day gs hs last last' → AlikeDays (elementsOf elements) (allBytes gs) (allBytes hs) → SameCalled 0 (records (allBytes gs)) (length one) one two
+    let opened = openCall elements day in
+    AllBytes elements → opened .status ≡ 0 → AlikeDays (elementsOf elements) (allBytes gs) (allBytes hs) → CutAlike gs hs → length last ≡ length last'
+    → CallByCall (opened .answer) (opened .answer) gs hs × (AllEnd (opened .answer) gs → SameDayCalled (opened .answer) gs hs last last')

@@ -44,7 +44,7 @@ use Rattle.yurdelmiz.proofs.AcceptedCalls.{Ending, accepted, BufferEndi
 
 -- ---- a state in its bytes
 
-state-back : (el : Elements) (bytes : List ℕ) (d : Day) → Held el → SoFar el bytes d → dayOf (dayBytes d) ≡ d
+pub state-back : (el : Elements) (bytes : List ℕ) (d : Day) → Held el → SoFar el bytes d → dayOf (dayBytes d) ≡ d
 unfolding dayAfter
 state-back el bytes d held s =
     let label = labelAt el bytes in
@@ -120,7 +120,7 @@ module _ (elements day : List ℕ) (below : (i : ℕ) → getD elements i 0 < 25
   abbrev el : Elements
   el = elementsOf elements
 
-  opened : (openingStep (elementsOf elements) .outcome ≡ Accepted) × (openCall elements day .answer ≡ dayBytes (openingStep (elementsOf elements) .day))
+  pub opened : (openingStep (elementsOf elements) .outcome ≡ Accepted) × (openCall elements day .answer ≡ dayBytes (openingStep (elementsOf elements) .day))
   unfolding openCall
   opened = open-by (openingStep el .outcome) (openingStep el .day) _ (accepted _ _ day ended)
 
@@ -128,7 +128,7 @@ module _ (elements day : List ℕ) (below : (i : ℕ) → getD elements i 0 < 25
   unfolding openCall
   long = eqb-true _ _ (and-true (eqb (length elements) 52) (eqb (length day) 89) (lengths-hold _ _ day ended) .0)
 
-  first : dayOf (openCall elements day .answer) ≡ openingStep (elementsOf elements) .day
+  pub first : dayOf (openCall elements day .answer) ≡ openingStep (elementsOf elements) .day
   first = ap dayOf (opened .1) ∙ state-back el [] _ (elements-held elements below) (opening-makes el (opened .0))
 
   module _ (hs : List Given) (last : List ℕ) (ends : AllEnd (openCall elements day .answer) hs) (closes : closeCall (dayCalled (openCall elements day .answer) hs) last .status ≡ 0) where
