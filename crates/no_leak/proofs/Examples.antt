@@ -39,23 +39,23 @@ use Rattle.scale.specs.Figures.{wattsIn, trainingIn, nothing, withLabel, nextFi
 use Rattle.scale.specs.Step.{figuresAllowed, firstLabels, scaling}
 use Rattle.scale.specs.declared.Figures.{Figures}
 use Rattle.no_leak.specs.Alike.{TrainingRecord, AlikeRecords}
-use Rattle.no_leak.specs.Examples.{satellite, five32, six32, nan32, ten, twelve, recordOf, dayOf, firstDay, alikeDay, figuresFor, greatestBy, AlikeExample, UnlikeExample}
+use Rattle.no_leak.specs.Examples.{satellite, five32, six32, nan32, ten, twelve, recordOf, threeRecords, firstDay, alikeDay, figuresFor, greatestBy, AlikeExample, UnlikeExample}
 use Rattle.no_leak.proofs.FilesInBuffers.{scaledWith, scaled-is}
 
 -- ---- three records, whatever their volts
 
 module _ (v w x : ℕ) where
-  labelled : labelling satellite (dayOf v w x) 96 ≡ Labelled (countsOf (labelAt satellite (dayOf v w x)) 3) 96
-  unfolding labelling labelledTelemetry telemetryRefused outputRefused labelledRecords noCounts trailerSize satellite dayOf recordOf bytes8 bytes4 checked checkedTo7 refuseIf perigeeBelow inRange leading passesAt passes timeRefused timesRefused recordAt sampleOf
-  labelled = ap (λ (c : Counts). Labelled c 96) (none-plus (countsOf (labelAt satellite (dayOf v w x)) 3))
+  labelled : labelling satellite (threeRecords v w x) 96 ≡ Labelled (countsOf (labelAt satellite (threeRecords v w x)) 3) 96
+  unfolding labelling labelledTelemetry telemetryRefused outputRefused labelledRecords noCounts trailerSize satellite threeRecords recordOf bytes8 bytes4 checked checkedTo7 refuseIf perigeeBelow inRange leading passesAt passes timeRefused timesRefused recordAt sampleOf
+  labelled = ap (λ (c : Counts). Labelled c 96) (none-plus (countsOf (labelAt satellite (threeRecords v w x)) 3))
 
-  sides : (labelAt satellite (dayOf v w x) 0 .side ≡ training) × (labelAt satellite (dayOf v w x) 1 .side ≡ withheld) × (labelAt satellite (dayOf v w x) 2 .side ≡ test)
-  unfolding satellite dayOf recordOf bytes8 bytes4 labelAt labelFor labelWith recordAt sampleOf stateOf revolution nodePassages gain advance linearTerm wholeTurns partTurn quadraticTerm drift sideOf
+  sides : (labelAt satellite (threeRecords v w x) 0 .side ≡ training) × (labelAt satellite (threeRecords v w x) 1 .side ≡ withheld) × (labelAt satellite (threeRecords v w x) 2 .side ≡ test)
+  unfolding satellite threeRecords recordOf bytes8 bytes4 labelAt labelFor labelWith recordAt sampleOf stateOf revolution nodePassages gain advance linearTerm wholeTurns partTurn quadraticTerm drift sideOf
   sides = (refl, refl, refl)
 
   -- the withheld and the test record
-  others-free : (k : ℕ) → k < 2 → TrainingRecord satellite (recordAt (dayOf v w x) (suc k)) → ⊥
-  unfolding satellite dayOf recordOf bytes8 bytes4 recordAt sampleOf revolution nodePassages gain advance linearTerm wholeTurns partTurn quadraticTerm drift sideOf
+  others-free : (k : ℕ) → k < 2 → TrainingRecord satellite (recordAt (threeRecords v w x) (suc k)) → ⊥
+  unfolding satellite threeRecords recordOf bytes8 bytes4 recordAt sampleOf revolution nodePassages gain advance linearTerm wholeTurns partTurn quadraticTerm drift sideOf
   others-free zero b t = let z : _≡_ {A = ℕ} 0 1 = t .side in omega arith
   others-free (suc zero) b t = let z : _≡_ {A = ℕ} 2 1 = t .side in omega arith
   others-free (suc (suc k)) b t = omega arith
@@ -73,22 +73,22 @@ made-figures el day output counts size f e =
     (scaled-is (labelAt el day) (records day) (label-keeps el 0 noCounts day (length output) counts size (passed .records) (passed .elements)) few [] (drop size output) size (omega (arith, file-length Bytes24 (labelAt el day) (records day), end-is el day output counts size e)) f)
 
 -- the training record alone counts
-greatest-is : (v w x : ℕ) (watts : Float) → labelAt satellite (dayOf v w x) 0 .reading ≡ Valid watts → greatestBy (figuresFor (dayOf v w x)) ≡ Held watts
-unfolding satellite dayOf recordOf bytes8 bytes4 labelAt labelFor labelWith recordAt sampleOf flatMap firstLabels nothing withLabel nextFile figuresAllowed isOn stateOf revolution nodePassages gain advance linearTerm wholeTurns partTurn quadraticTerm drift sideOf
+greatest-is : (v w x : ℕ) (watts : Float) → labelAt satellite (threeRecords v w x) 0 .reading ≡ Valid watts → greatestBy (figuresFor (threeRecords v w x)) ≡ Held watts
+unfolding satellite threeRecords recordOf bytes8 bytes4 labelAt labelFor labelWith recordAt sampleOf flatMap firstLabels nothing withLabel nextFile figuresAllowed isOn stateOf revolution nodePassages gain advance linearTerm wholeTurns partTurn quadraticTerm drift sideOf
 greatest-is v w x watts e =
-    ap greatestBy (made-figures satellite (dayOf v w x) (replicate 96 0) _ 96 nothing (labelled v w x)) ∙ ap (λ (r : Reading). foldl (keep Greatest) Nothing (wattsIn r)) e
+    ap greatestBy (made-figures satellite (threeRecords v w x) (replicate 96 0) _ 96 nothing (labelled v w x)) ∙ ap (λ (r : Reading). foldl (keep Greatest) Nothing (wattsIn r)) e
 
 -- ---- the days
 
 alike-at : (k : ℕ) → k < 3 → AlikeRecords satellite (recordAt firstDay k) (recordAt alikeDay k)
-unfolding dayOf recordOf bytes8 bytes4 recordAt sampleOf
+unfolding threeRecords recordOf bytes8 bytes4 recordAt sampleOf
 alike-at zero b = record { same-time = refl; same-volts = λ t. refl; same-amperes = λ t. refl }
 alike-at (suc zero) b = record { same-time = refl; same-volts = λ t. absurd (others-free five32 five32 five32 0 (omega arith) t); same-amperes = λ t. refl }
 alike-at (suc (suc zero)) b = record { same-time = refl; same-volts = λ t. absurd (others-free five32 five32 five32 1 (omega arith) t); same-amperes = λ t. refl }
 alike-at (suc (suc (suc k))) b = absurd (omega arith)
 
 pub alike-days : AlikeExample
-unfolding dayOf recordOf bytes8 bytes4 labelAt labelFor labelWith recordAt sampleOf readingOf isNan ofBits mul
+unfolding threeRecords recordOf bytes8 bytes4 labelAt labelFor labelWith recordAt sampleOf readingOf isNan ofBits mul
 alike-days =
     record {
       labelled = labelled five32 five32 five32;
@@ -100,7 +100,7 @@ alike-days =
     }
 
 pub unlike-days : UnlikeExample
-unfolding dayOf recordOf bytes8 bytes4 labelAt labelFor labelWith recordAt sampleOf readingOf isNan ofBits mul
+unfolding threeRecords recordOf bytes8 bytes4 labelAt labelFor labelWith recordAt sampleOf readingOf isNan ofBits mul
 unlike-days =
     record {
       same-length = refl;

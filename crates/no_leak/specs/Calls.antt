@@ -44,7 +44,7 @@ LabelCalls =
 
 -- ---- yurdelmiz_add
 
--- the same status and the same answer, which states the counts and the size of the file; and with status 0 the files
+-- two calls that ended with status 0: the same answer, which states the counts and the size of the file; and the files
 pub record AddedAlike (first : ℕ) (call call' : BufferCall) : Type 0 where
   pub counts : Counts
   pub size : ℕ
@@ -52,7 +52,7 @@ pub record AddedAlike (first : ℕ) (call call' : BufferCall) : Type 0 where
   pub same-answer : call .answer ≡ call' .answer
   pub same-files : SameCalled first (counts .labels) size (call .buffer) (call' .buffer)
 
--- as for adding, the first part having been labelled by yurdelmiz_label (theorem `add-calls`)
+-- the same status, and with status 0 the files, as for adding, the first part having been labelled by yurdelmiz_label (theorem `add-calls`)
 abbrev pub AddCalls : Type 0
 AddCalls =
     (elements one two more more' front front' rest rest' output answer answer' : List ℕ) (form : Form) →

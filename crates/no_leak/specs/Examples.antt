@@ -67,17 +67,17 @@ unfoldable pub recordOf : ℕ → ℕ → List ℕ
 recordOf time volts = bytes8 time ++ (bytes4 volts ++ bytes4 two32)
 
 -- three records, one in each of the revolutions 63, 64 and 65, by their volts
-unfoldable pub dayOf : ℕ → ℕ → ℕ → List ℕ
-dayOf v w x = recordOf 0 v ++ (recordOf 6_000 w ++ recordOf 12_000 x)
+unfoldable pub threeRecords : ℕ → ℕ → ℕ → List ℕ
+threeRecords v w x = recordOf 0 v ++ (recordOf 6_000 w ++ recordOf 12_000 x)
 
 abbrev pub firstDay : List ℕ
-firstDay = dayOf five32 five32 five32
+firstDay = threeRecords five32 five32 five32
 
 abbrev pub alikeDay : List ℕ
-alikeDay = dayOf five32 six32 nan32
+alikeDay = threeRecords five32 six32 nan32
 
 abbrev pub unlikeDay : List ℕ
-unlikeDay = dayOf six32 five32 five32
+unlikeDay = threeRecords six32 five32 five32
 
 -- ---- the figures with the file of a day
 
