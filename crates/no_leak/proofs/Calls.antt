@@ -42,10 +42,10 @@ use Rattle.yurdelmiz.proofs.CutDays.{step-by}
 use Rattle.no_leak.specs.Files.{SameFiles, FilesBy}
 use Rattle.no_leak.specs.Adding.{fileFor}
 use Rattle.no_leak.specs.Packets.{AlikeStates, outcomeOf, SamePacket}
-use Rattle.no_leak.specs.Calls.{SameCalled, LabelCalls, AddCalls, PacketAlike, PacketCalls, CloseCalls}
+use Rattle.no_leak.specs.Calls.{SameCalled, LabelCalls, AddCalls, SamePacketCalled, PacketCalls, CloseCalls}
 use Rattle.no_leak.proofs.AtOnce.{labels-number, at-once}
-use Rattle.no_leak.proofs.Adding.{added}
-use Rattle.no_leak.proofs.PacketSteps.{allowed-bare, one-packet, closing-alike}
+use Rattle.no_leak.proofs.Adding.{added, added-sizes}
+use Rattle.no_leak.proofs.PacketSteps.{allowed-bare, one-packet, closing}
 
 -- ---- yurdelmiz_scale
 
@@ -59,7 +59,7 @@ files-called s =
 
 -- ---- yurdelmiz_label
 
--- the status knows the answer alone
+-- the status depends on the answer alone
 label-status : (lengths : Bool) (a : Labelling) (after after' output output' : List ℕ) → callOf lengths (labelOutcome a after) output .status ≡ callOf lengths (labelOutcome a after') output' .status
 unfolding callOf
 label-status false a after after' output output' = refl
@@ -140,12 +140,10 @@ add-calls elements one two more more' front front' rest rest' output answer answ
           let a = add-accepted elements buffer used more answer ended in
           let b = add-ended elements buffer buffer' used used' more more' answer answer' (leak .same-answer) as-long (a .counts) (a .end) (sym (leak .same-answer) ∙ a .added) (sym status ∙ ended) in
           let files = subst (λ (x : Labelling). FilesBy x (length front) (bufferAfter el buffer used more) (bufferAfter el buffer' used' more')) (a .added) (leak .same-files) in
+          let sizes = added-sizes el one two more more' front front' rest rest' form (length output) (l .end) (l .counts) alike (l .labelled) alike-more as-much as-much-behind (a .counts) (a .end) (a .added) in
           record {
-            counts = a .counts;
-            size = a .end;
-            answer-is = a .answer-is;
             same-answer = a .answer-is ∙ sym (b .1);
-            same-files = rw (a .buffer-is, b .0) (files-called files);
+            same-files = rw (a .buffer-is, b .0, sym (sizes .1), sym (sizes .0)) (files-called files);
           },
     )
 
@@ -216,7 +214,7 @@ packet-ended day g ended =
 -- two packets that are taken alike, where the bytes of the states behind them say these again
 pub packet-called : (day day' : List ℕ) (g h : Given) → length day ≡ length day' → AlikeStates (dayOf day) (dayOf day') → SamePacket (dayOf day) (dayOf day') g h
     → (outcomeOf (dayOf day) g ≡ step.Accepted → dayOf (dayBytes (dayBehind (dayOf day) g)) ≡ dayBehind (dayOf day) g)
-    → (outcomeOf (dayOf day') h ≡ step.Accepted → dayOf (dayBytes (dayBehind (dayOf day') h)) ≡ dayBehind (dayOf day') h) → PacketAlike day day' g h
+    → (outcomeOf (dayOf day') h ≡ step.Accepted → dayOf (dayBytes (dayBehind (dayOf day') h)) ≡ dayBehind (dayOf day') h) → SamePacketCalled day day' g h
 unfolding packetCall
 packet-called day day' g h as-long states same back back' =
     let d = dayOf day in
@@ -247,7 +245,7 @@ unfolding closeCall trailerSize
 close-calls day day' last last' as-long states same-room =
     let d = dayOf day in
     let e = dayOf day' in
-    let same = closing-alike d e last last' states same-room in
+    let same = closing d e last last' states same-room in
     let status = statuses-same day day' last last' as-long (closingStep d (length last) .day) (closingStep e (length last') .day) (closingOutput d last) (closingOutput e last') (same .same-outcome) in (
       status,
       λ ended.

@@ -16,7 +16,7 @@ use Rattle.yurdelmiz.specs.Calls.{openCall}
 use Rattle.yurdelmiz.specs.CutDay.{takes, dayCalled, AllEnd}
 use Rattle.yurdelmiz.proofs.CutDays.{state-back, opened, first, one-go}
 use Rattle.no_leak.specs.Packets.{AlikeStates, CutAlike, outcomeOf, SamePacket, PacketByPacket}
-use Rattle.no_leak.specs.Calls.{PacketAlike, CallByCall, DayCalls}
+use Rattle.no_leak.specs.Calls.{SamePacketCalled, CallByCall, DayCalls}
 use Rattle.no_leak.proofs.PacketSteps.{states-refl}
 use Rattle.no_leak.proofs.PacketDays.{finished, in-packets}
 use Rattle.no_leak.proofs.Calls.{files-called, packet-ended, packet-called, close-calls}
@@ -32,15 +32,16 @@ next-called el bytes day g held s ended =
 by-calls : (el : Elements) (bytes bytes' day day' : List ℕ) (gs hs : List Given) → Held el → SoFar el bytes (dayOf day) → SoFar el bytes' (dayOf day') → AlikeStates (dayOf day) (dayOf day') → length day ≡ length day'
     → PacketByPacket (dayOf day) (dayOf day') gs hs → CallByCall day day' gs hs
 unfolding PacketByPacket CallByCall
-by-calls el bytes bytes' day day' [] hs held s t states as-long packets = tt
-by-calls el bytes bytes' day day' (g ∷ gs) [] held s t states as-long packets = tt
+by-calls el bytes bytes' day day' [] [] held s t states as-long packets = tt
+by-calls el bytes bytes' day day' [] (h ∷ hs) held s t states as-long packets = absurd packets
+by-calls el bytes bytes' day day' (g ∷ gs) [] held s t states as-long packets = absurd packets
 by-calls el bytes bytes' day day' (g ∷ gs) (h ∷ hs) held s t states as-long packets =
     let d = dayOf day in
     let e = dayOf day' in
     let same : SamePacket d e g h = packets .0 in
     let back : outcomeOf d g ≡ Accepted → dayOf (dayBytes (dayBehind d g)) ≡ dayBehind d g = λ accepted. state-back el (bytes ++ g .packet) (dayBehind d g) held (packet-keeps el bytes (g .packet) d (length (g .output)) s accepted) in
     let back' : outcomeOf e h ≡ Accepted → dayOf (dayBytes (dayBehind e h)) ≡ dayBehind e h = λ accepted. state-back el (bytes' ++ h .packet) (dayBehind e h) held (packet-keeps el bytes' (h .packet) e (length (h .output)) t accepted) in
-    let alike : PacketAlike day day' g h = packet-called day day' g h as-long states same back back' in (
+    let alike : SamePacketCalled day day' g h = packet-called day day' g h as-long states same back back' in (
       alike,
       λ ended.
           let ended' = sym (alike .same-status) ∙ ended in
@@ -67,7 +68,7 @@ all-called day day' [] [] as-long states cut calls ends = record { all-end = tt;
 all-called day day' [] (h ∷ hs) as-long states cut calls ends = absurd cut
 all-called day day' (g ∷ gs) [] as-long states cut calls ends = absurd cut
 all-called day day' (g ∷ gs) (h ∷ hs) as-long states cut calls ends =
-    let alike : PacketAlike day day' g h = calls .0 in
+    let alike : SamePacketCalled day day' g h = calls .0 in
     let rest = all-called (takes day g .answer) (takes day' h .answer) gs hs (alike .as-long) (alike .alike-states) (cut .1) (calls .1 (ends .0)) (ends .1) in
     record { all-end = (sym (alike .same-status) ∙ ends .0, rest .all-end); as-long = rest .as-long; alike-states = rest .alike-states }
 
@@ -90,7 +91,8 @@ day-calls elements day gs hs last last' all ended alike cut same-room =
           record {
             all-end = taken .all-end;
             same-status = closing .0;
-            same-files = λ closed.
-                files-called (finished el _ _ _ _ _ _ alike (one-go elements day (all .byte) ended gs last ends closed) (one-go elements day (all .byte) ended hs last' (taken .all-end) (sym (closing .0) ∙ closed)));
+            finished = λ closed.
+                let files = finished el _ _ _ _ _ _ alike (one-go elements day (all .byte) ended gs last ends closed) (one-go elements day (all .byte) ended hs last' (taken .all-end) (sym (closing .0) ∙ closed)) in
+                record { same-length = files .same-length; same-files = files-called (files .same-files) };
           },
     )

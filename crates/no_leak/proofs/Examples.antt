@@ -1,14 +1,14 @@
 -- The examples, computed: two days that are alike and differ, and one whose training record differs. Assumes nothing.
-use mathlib.Core.Path.{_≡_, refl, ap, _∙_}
+use mathlib.Core.Path.{_≡_, refl, sym, ap, _∙_}
 use mathlib.Core.List.{List, [], flatMap, foldl}
 use Prim.Native.Nat.{ℕ, zero, suc, _≤_, _<_}
 use native.Mathlib.Omega.{arith}
 use lib.ListN.{length, drop, replicate}
-use lib.Ieee.{Float, isNan, ofBits, mul}
+use lib.Ieee.{Float, binary32, isNan, ofBits, toBits, mul}
 use Rattle.endian.specs.LittleEndian.{bytes4, bytes8}
 use Rattle.time.specs.Range.{inRange}
 use Rattle.elements.specs.Elements.{refuseIf, perigeeBelow, checkedTo7, checked}
-use Rattle.elements.specs.Time.{timesRefused, timeRefused}
+use Rattle.elements.specs.Time.{timesRefused, timeRefused, checkedAt}
 use Rattle.elements.specs.declared.Elements.{Elements}
 use Rattle.orbit.specs.Placement.{stateOf}
 use Rattle.orbit.specs.Revolution.{gain, nodePassages, revolution}
@@ -33,13 +33,14 @@ use Rattle.labelling.proofs.WrittenFile.{end-is, output-is}
 use Rattle.label_file.proofs.RoundTrip.{file-length}
 use Rattle.trailer.specs.declared.Form.the-variants.{Bytes24}
 use Rattle.extreme.specs.Extremes.{keep}
+use Rattle.extreme.specs.declared.Extreme.{Extreme}
 use Rattle.extreme.specs.declared.Extreme.the-variants.{Nothing, Held}
 use Rattle.extreme.specs.declared.Kind.the-variants.{Greatest}
 use Rattle.scale.specs.Figures.{wattsIn, trainingIn, nothing, withLabel, nextFile}
 use Rattle.scale.specs.Step.{figuresAllowed, firstLabels, scaling}
 use Rattle.scale.specs.declared.Figures.{Figures}
 use Rattle.no_leak.specs.Alike.{TrainingRecord, AlikeRecords}
-use Rattle.no_leak.specs.Examples.{satellite, five32, six32, nan32, ten, twelve, recordOf, threeRecords, firstDay, alikeDay, figuresFor, greatestBy, AlikeExample, UnlikeExample}
+use Rattle.no_leak.specs.Examples.{satellite, five32, six32, nan32, ten, twelve, recordOf, threeRecords, firstDay, alikeDay, unlikeDay, figuresFor, greatestBy, AlikeExample, UnlikeExample}
 use Rattle.no_leak.proofs.FilesInBuffers.{scaledWith, scaled-is}
 
 -- ---- three records, whatever their volts
@@ -99,6 +100,22 @@ alike-days =
       greatest = (greatest-is five32 five32 five32 ten refl, greatest-is five32 six32 nan32 ten refl);
     }
 
+first-training : TrainingRecord satellite (recordAt firstDay 0)
+unfolding satellite threeRecords recordOf bytes8 bytes4 recordAt sampleOf checkedAt checked checkedTo7 refuseIf perigeeBelow inRange timeRefused timesRefused revolution nodePassages gain advance linearTerm wholeTurns partTurn quadraticTerm drift sideOf
+first-training = record { passed = refl; side = refl }
+
+unlike-volts : recordAt firstDay 0 .volts ≡ recordAt unlikeDay 0 .volts → ⊥
+unfolding threeRecords recordOf bytes8 bytes4 recordAt sampleOf ofBits toBits
+unlike-volts e = let z : _≡_ {A = ℕ} five32 six32 = ap (toBits binary32) e in omega arith
+
+abbrev bitsOf : Extreme → ℕ
+bitsOf Nothing = 0
+bitsOf (Held x) = toBits binary32 x
+
+unlike-watts : Held ten ≡ Held twelve → ⊥
+unfolding ofBits toBits
+unlike-watts e = let z : _≡_ {A = ℕ} 1_092_616_192 1_094_713_344 = ap bitsOf e in omega arith
+
 pub unlike-days : UnlikeExample
 unfolding threeRecords recordOf bytes8 bytes4 labelAt labelFor labelWith recordAt sampleOf readingOf isNan ofBits mul
 unlike-days =
@@ -107,5 +124,7 @@ unlike-days =
       same-time = refl;
       same-amperes = refl;
       same-others = (refl, refl);
+      not-alike = λ alike. unlike-volts (alike .alike-records 0 (omega arith) .same-volts first-training);
       greatest = (greatest-is five32 five32 five32 ten refl, greatest-is six32 five32 five32 twelve refl);
+      other-figures = λ e. unlike-watts (sym (greatest-is five32 five32 five32 ten refl) ∙ ap greatestBy e ∙ greatest-is six32 five32 five32 twelve refl);
     }

@@ -23,10 +23,10 @@ use Rattle.packets.proofs.EveryCut.{every-cut}
 use Rattle.packets.proofs.TakenSoFar.{opening-makes, packet-keeps}
 use Rattle.no_leak.specs.Alike.{AlikeDays}
 use Rattle.no_leak.specs.Files.{SameFiles, FilesBy}
-use Rattle.no_leak.specs.Packets.{AlikeStates, SameSizes, SamePacket, CutAlike, PacketByPacket, InPackets}
+use Rattle.no_leak.specs.Packets.{AlikeStates, SameSizes, SamePacket, CutAlike, PacketByPacket, SameFinished, InPackets}
 use Rattle.no_leak.proofs.AlikeRecords.{same-number, pending-alike}
 use Rattle.no_leak.proofs.AtOnce.{labels-number, at-once}
-use Rattle.no_leak.proofs.PacketSteps.{states-refl, one-packet, closing-alike}
+use Rattle.no_leak.proofs.PacketSteps.{states-refl, one-packet, closing}
 
 -- ---- packets one after another
 
@@ -41,8 +41,9 @@ elements-are el bytes d s = ap (λ (x : Day). x .elements) (s .state-is)
 fed : (el : Elements) (bytes bytes' : List ℕ) (d e : Day) (gs hs : List Given) → SoFar el bytes d → SoFar el bytes' e → AlikeStates d e → length bytes ≡ length bytes' → AlikeDays el (bytes ++ allBytes gs) (bytes' ++ allBytes hs) → CutAlike gs hs
     → PacketByPacket d e gs hs
 unfolding allBytes CutAlike PacketByPacket
-fed el bytes bytes' d e [] hs s t states as-long alike cut = tt
-fed el bytes bytes' d e (g ∷ gs) [] s t states as-long alike cut = tt
+fed el bytes bytes' d e [] [] s t states as-long alike cut = tt
+fed el bytes bytes' d e [] (h ∷ hs) s t states as-long alike cut = absurd cut
+fed el bytes bytes' d e (g ∷ gs) [] s t states as-long alike cut = absurd cut
 fed el bytes bytes' d e (g ∷ gs) (h ∷ hs) s t states as-long alike cut =
     let p = g .packet in
     let q = h .packet in
@@ -78,15 +79,18 @@ all-taken d e (g ∷ gs) (h ∷ hs) states cut packets accepted =
 over-itself : (el : Elements) (telemetry file : List ℕ) (counts : Counts) → OneGo el telemetry file counts → outputAfter el telemetry file ≡ file
 over-itself el telemetry file counts o = o .written file (omega arith) ∙ ap (λ (l : List ℕ). file ++ l) (drop-length file) ∙ append-nil file
 
-pub finished : (el : Elements) (one two file file' : List ℕ) (counts counts' : Counts) → AlikeDays el one two → OneGo el one file counts → OneGo el two file' counts' → SameFiles 0 (records one) (length file) file file'
+pub finished : (el : Elements) (one two file file' : List ℕ) (counts counts' : Counts) → AlikeDays el one two → OneGo el one file counts → OneGo el two file' counts' → SameFinished (records one) file file'
 finished el one two file file' counts counts' alike o o' =
     let labelled = o .accepted (length file) (omega arith) in
     let labelled' = o' .accepted (length file') (omega arith) in
     let as-long = end-is el one file counts (length file) labelled ∙ ap (distanceBack Bytes24) (same-number el one two alike) ∙ sym (end-is el two file' counts' (length file') labelled') in
     let files = subst (λ (a : Labelling). FilesBy a 0 (outputAfter el one file) (outputAfter el two file')) labelled (at-once el one two file file' alike as-long .same-files) in
-    rw (sym (labels-number el one (length file) counts (length file) labelled))
-    (subst (λ (l : List ℕ). SameFiles 0 (counts .labels) (length file) l file') (over-itself el one file counts o)
-    (subst (λ (l : List ℕ). SameFiles 0 (counts .labels) (length file) (outputAfter el one file) l) (over-itself el two file' counts' o') files))
+    record {
+      same-length = as-long;
+      same-files = rw (sym (labels-number el one (length file) counts (length file) labelled))
+          (subst (λ (l : List ℕ). SameFiles 0 (counts .labels) (length file) l file') (over-itself el one file counts o)
+          (subst (λ (l : List ℕ). SameFiles 0 (counts .labels) (length file) (outputAfter el one file) l) (over-itself el two file' counts' o') files));
+    }
 
 pub in-packets : InPackets
 in-packets el gs hs last last' opened alike cut same-room =
@@ -97,11 +101,11 @@ in-packets el gs hs last last' opened alike cut same-room =
       packet-by-packet = packets;
       same-day = λ accepted.
           let taken = all-taken d d gs hs (states-refl d) cut packets accepted in
-          let closing = closing-alike (dayFrom d gs) (dayFrom d hs) last last' (taken .states) same-room in
+          let closed-alike = closing (dayFrom d gs) (dayFrom d hs) last last' (taken .states) same-room in
           record {
             all-accepted = taken .accepted;
-            same-closing = closing;
-            same-files = λ closed.
-                finished el (allBytes gs) (allBytes hs) (fileFrom d gs last) (fileFrom d hs last') _ _ alike (every-cut el gs last opened accepted closed) (every-cut el hs last' opened (taken .accepted) (sym (closing .same-outcome) ∙ closed));
+            same-closing = closed-alike;
+            finished = λ closed.
+                finished el (allBytes gs) (allBytes hs) (fileFrom d gs last) (fileFrom d hs last') _ _ alike (every-cut el gs last opened accepted closed) (every-cut el hs last' opened (taken .accepted) (sym (closed-alike .same-outcome) ∙ closed));
           };
     }

@@ -1,4 +1,4 @@
--- Alike days in packets that are cut alike: one packet, closing, packets one after another, and the finished files. Assumes nothing.
+-- Alike days in packets that are cut alike: one packet, packets one after another, and closing. Assumes nothing.
 use mathlib.Core.Path.{_≡_, refl, sym, ap, subst, _∙_}
 use mathlib.Core.Bool.{Bool, true, false, not, _&&_, cond}
 use mathlib.Core.List.{List, [], _∷_, _++_}
@@ -33,7 +33,7 @@ use Rattle.packets.proofs.AllowedDays.{allowed-says}
 use Rattle.packets.proofs.Steps.{taken-whole}
 use Rattle.no_leak.specs.Alike.{AlikeDays}
 use Rattle.no_leak.specs.Files.{SameTraining}
-use Rattle.no_leak.specs.Packets.{AlikeStates, SameSizes, outcomeOf, OnePacket, GivenAlike, TakenAlike, ManyPackets, SameClosing}
+use Rattle.no_leak.specs.Packets.{AlikeStates, SameSizes, outcomeOf, OnePacket, GivenAlike, SameTaken, ManyPackets, Closing}
 use Rattle.no_leak.proofs.AlikeRecords.{same-number, same-leading, same-counts, rules-one, rules-two, same-training}
 use Rattle.no_leak.proofs.FilesInBuffers.{parts-alike}
 
@@ -136,18 +136,19 @@ one-packet d e g h states sizes alike =
     }
 
 pub many-packets : ManyPackets
-unfolding GivenAlike TakenAlike
-many-packets d e [] hs states alike = tt
-many-packets d e (g ∷ gs) [] states alike = tt
+unfolding GivenAlike SameTaken
+many-packets d e [] [] states alike = tt
+many-packets d e [] (h ∷ hs) states alike = absurd alike
+many-packets d e (g ∷ gs) [] states alike = absurd alike
 many-packets d e (g ∷ gs) (h ∷ hs) states alike =
     let same = one-packet d e g h states (alike .0) (alike .1) in
     (same, many-packets (dayBehind d g) (dayBehind e h) gs hs (same .alike-states) (alike .2))
 
 -- ---- closing
 
-pub closing-alike : (d e : Day) (last last' : List ℕ) → AlikeStates d e → length last ≡ length last' → SameClosing d e last last'
+pub closing : Closing
 unfolding closingStep
-closing-alike d e last last' s same-room =
+closing d e last last' s same-room =
     let allowed = allowed-alike d e s in
     let same : closingStep d (length last) .outcome ≡ closingStep e (length last') .outcome =
     steps-alike (not (dayAllowed d)) (not (eqb (d .have) 0)) (ltb (length last) (trailerSize Bytes24)) false 0 d e (closedDay d) (closedDay e) s (closed-alike d e s) .same-outcome

@@ -15,7 +15,7 @@ use Rattle.labelling.specs.declared.Labelling.the-variants.{Labelled}
 use Rattle.no_leak.specs.Alike.{AlikeDays}
 use Rattle.no_leak.specs.Files.{NoLeak}
 
--- the file that labelling some telemetry makes, with either trailer
+-- the file that labelling some telemetry makes; it writes the trailer of 24 bytes, and files with that of 16 are added to as well
 abbrev pub fileFor : Elements → Form → List ℕ → List ℕ
 fileFor el form telemetry = fileOf form (labelAt el telemetry) (records telemetry)
 

@@ -1,5 +1,6 @@
 -- The theorems are not empty, and what alike asks is needed: two days that are alike and differ, and a third that differs in a training
--- record and has other figures. The checker computes all of it. Assumes nothing.
+-- record and has other figures. The checker computes times, sides and readings; the figures follow by the law of files in buffers. Assumes
+-- nothing.
 use mathlib.Core.Path.{_≡_}
 use Prim.Native.Nat.{ℕ, _^_}
 use mathlib.Core.List.{List, _++_}
@@ -92,7 +93,7 @@ greatestBy (scaled.Refused refusal place) = Nothing
 -- ---- what the days show
 
 -- The first day is labelled, with a label on each side. The second is alike to it, and differs in the volts, and so in the labels, of the
--- withheld record and of the test record; the figures do not know of their 12 watts (law `alike-days`).
+-- withheld record and of the test record; the figures do not have the 12 watts of the withheld one (law `alike-days`).
 pub record AlikeExample : Type 0 where
   pub labelled : labelling satellite firstDay 96 ≡ Labelled (countsOf (labelAt satellite firstDay) 3) 96
   pub sides : (labelAt satellite firstDay 0 .side ≡ training) × (labelAt satellite firstDay 1 .side ≡ withheld) × (labelAt satellite firstDay 2 .side ≡ test)
@@ -101,10 +102,12 @@ pub record AlikeExample : Type 0 where
   pub test-reading : (labelAt satellite firstDay 2 .reading ≡ Valid ten) × (labelAt satellite alikeDay 2 .reading ≡ Missing)
   pub greatest : (greatestBy (figuresFor firstDay) ≡ Held ten) × (greatestBy (figuresFor alikeDay) ≡ Held ten)
 
--- The third day differs from the first in the volts of the training record alone, and has other figures (law `unlike-days`).
+-- The third day differs from the first in the volts of the training record alone; it is not alike, and has other figures (law `unlike-days`).
 pub record UnlikeExample : Type 0 where
   pub same-length : length firstDay ≡ length unlikeDay
   pub same-time : recordAt firstDay 0 .time ≡ recordAt unlikeDay 0 .time
   pub same-amperes : recordAt firstDay 0 .amperes ≡ recordAt unlikeDay 0 .amperes
   pub same-others : (recordAt firstDay 1 ≡ recordAt unlikeDay 1) × (recordAt firstDay 2 ≡ recordAt unlikeDay 2)
+  pub not-alike : AlikeDays satellite firstDay unlikeDay → ⊥
   pub greatest : (greatestBy (figuresFor firstDay) ≡ Held ten) × (greatestBy (figuresFor unlikeDay) ≡ Held twelve)
+  pub other-figures : figuresFor firstDay ≡ figuresFor unlikeDay → ⊥

@@ -11,8 +11,8 @@ use Rattle.scale.specs.declared.Figures.{Figures}
 use Rattle.labelling.specs.declared.Labelling.{Labelling}
 use Rattle.labelling.specs.declared.Labelling.the-variants.{Labelled, Refused}
 
--- n labels from the start of some bytes, and n from the start of others: those of one number have one side, and on the training side the
--- same 24 bytes
+-- n labels from the start of some bytes, and n from the start of others: labels of the same number have the same side, and on the training
+-- side the same 24 bytes
 pub record SameTraining (one two : List ℕ) (n : ℕ) : Type 0 where
   pub same-sides : (k : ℕ) → k < n → heldAt one k .side ≡ heldAt two k .side
   pub same-bytes : (k : ℕ) → k < n → heldAt one k .side ≡ training → partAt one k ≡ partAt two k

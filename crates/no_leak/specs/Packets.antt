@@ -60,14 +60,15 @@ GivenAlike d e (g ∷ gs) (h ∷ hs) =
     SameSizes g h × AlikeDays (d .elements) (pending d (g .packet)) (pending e (h .packet)) × GivenAlike (dayBehind d g) (dayBehind e h) gs hs
 
 -- each two are taken alike
-unfoldable pub TakenAlike : Day → Day → List Given → List Given → Type 0
-TakenAlike d e [] hs = Unit {0}
-TakenAlike d e (g ∷ gs) [] = Unit {0}
-TakenAlike d e (g ∷ gs) (h ∷ hs) = SamePacket d e g h × TakenAlike (dayBehind d g) (dayBehind e h) gs hs
+unfoldable pub SameTaken : Day → Day → List Given → List Given → Type 0
+SameTaken d e [] [] = Unit {0}
+SameTaken d e [] (h ∷ hs) = ⊥
+SameTaken d e (g ∷ gs) [] = ⊥
+SameTaken d e (g ∷ gs) (h ∷ hs) = SamePacket d e g h × SameTaken (dayBehind d g) (dayBehind e h) gs hs
 
 -- theorem `many-packets`
 abbrev pub ManyPackets : Type 0
-ManyPackets = (d e : Day) (gs hs : List Given) → AlikeStates d e → GivenAlike d e gs hs → TakenAlike d e gs hs
+ManyPackets = (d e : Day) (gs hs : List Given) → AlikeStates d e → GivenAlike d e gs hs → SameTaken d e gs hs
 
 -- ---- closing
 
@@ -76,6 +77,10 @@ pub record SameClosing (d e : Day) (last last' : List ℕ) : Type 0 where
   pub same-outcome : closingStep d (length last) .outcome ≡ closingStep e (length last') .outcome
   pub same-trailer : closingStep d (length last) .outcome ≡ Accepted
       → take (trailerSize Bytes24) (closingOutput d last) ≡ take (trailerSize Bytes24) (closingOutput e last')
+
+-- from any two alike states, with the same room for the trailer (theorem `closing`)
+abbrev pub Closing : Type 0
+Closing = (d e : Day) (last last' : List ℕ) → AlikeStates d e → length last ≡ length last' → SameClosing d e last last'
 
 -- ---- a day
 
@@ -88,16 +93,21 @@ CutAlike (g ∷ gs) (h ∷ hs) = SameSizes g h × CutAlike gs hs
 
 -- packet by packet, up to the first that is refused: what comes behind it completes other records than in the days joined
 unfoldable pub PacketByPacket : Day → Day → List Given → List Given → Type 0
-PacketByPacket d e [] hs = Unit {0}
-PacketByPacket d e (g ∷ gs) [] = Unit {0}
+PacketByPacket d e [] [] = Unit {0}
+PacketByPacket d e [] (h ∷ hs) = ⊥
+PacketByPacket d e (g ∷ gs) [] = ⊥
 PacketByPacket d e (g ∷ gs) (h ∷ hs) = SamePacket d e g h × (outcomeOf d g ≡ Accepted → PacketByPacket (dayBehind d g) (dayBehind e h) gs hs)
+
+-- two finished files of n labels
+pub record SameFinished (n : ℕ) (file file' : List ℕ) : Type 0 where
+  pub same-length : length file ≡ length file'
+  pub same-files : SameFiles 0 n (length file) file file'
 
 -- where all packets of the first day are accepted: so are those of the second; closing; and where that is accepted too, the files
 pub record SameDay (d : Day) (gs hs : List Given) (last last' : List ℕ) : Type 0 where
   pub all-accepted : AllAccepted d hs
   pub same-closing : SameClosing (dayFrom d gs) (dayFrom d hs) last last'
-  pub same-files : closingStep (dayFrom d gs) (length last) .outcome ≡ Accepted
-      → SameFiles 0 (records (allBytes gs)) (length (fileFrom d gs last)) (fileFrom d gs last) (fileFrom d hs last')
+  pub finished : closingStep (dayFrom d gs) (length last) .outcome ≡ Accepted → SameFinished (records (allBytes gs)) (fileFrom d gs last) (fileFrom d hs last')
 
 pub record NoLeakIn (d : Day) (gs hs : List Given) (last last' : List ℕ) : Type 0 where
   pub packet-by-packet : PacketByPacket d d gs hs
