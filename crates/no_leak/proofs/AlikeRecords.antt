@@ -1,6 +1,6 @@
 -- Alike days: their records are refused alike, their labels have the same counts, and their training labels are the same; days that are
 -- cut and joined. Assumes nothing.
-use mathlib.Core.Path.{_≡_, sym, ap, _∙_}
+use mathlib.Core.Path.{_≡_, sym, ap, subst, _∙_}
 use mathlib.Core.Bool.{true, not}
 use mathlib.Core.Logic.{dite}
 use mathlib.Core.List.{List, _++_, append-assoc}
@@ -8,7 +8,7 @@ use Prim.Native.Nat.{ℕ, _+_, _*_, _-_, _/_, _%_, _≤_, _<_}
 use native.Mathlib.Decide.{decLe}
 use native.Mathlib.Omega.{arith}
 use lib.IntN.{ℤ}
-use lib.ListN.{length, getD, take, drop, length-append, length-drop}
+use lib.ListN.{length, getD, take, drop, length-append, length-drop, take-append-drop}
 use lib.Seq.{length-take-le, take-append-seam, drop-append-le, getD-take, getD-drop}
 use Rattle.elements.specs.Elements.{checked}
 use Rattle.elements.specs.Time.{timeRefused}
@@ -158,3 +158,13 @@ module _ (el : Elements) (one two more more' : List ℕ) (alike : AlikeDays el o
             let first : k < records one = omega (arith, h) in
             rw (record-first one more whole k first, record-first two more' whole' k (omega (arith, n))) (alike .alike-records k first));
       }
+
+-- alike bytes, and what their whole records leave with alike others behind
+pub grown-alike : (el : Elements) (bytes bytes' more more' : List ℕ) → AlikeDays el bytes bytes' → AlikeDays el (unfinished bytes ++ more) (unfinished bytes' ++ more') → AlikeDays el (bytes ++ more) (bytes' ++ more')
+grown-alike el bytes bytes' more more' alike rest =
+    let m = recordSize * records bytes in
+    let m' : recordSize * records bytes' ≡ m = omega (arith, alike .same-length) in
+    let all : (b c : List ℕ) (k : ℕ) → take k b ++ (drop k b ++ c) ≡ b ++ c = λ b c k. sym (append-assoc (take k b) (drop k b) c) ∙ ap (λ (l : List ℕ). l ++ c) (take-append-drop k b) in
+    let first = alike-part el bytes bytes' 0 m alike (omega arith) in
+    let whole : length (take m bytes) % recordSize ≡ 0 = omega (arith, length-take-le m bytes (omega arith)) in
+    rw (sym (all bytes more m), sym (all bytes' more' m)) (joined-alike el (take m bytes) (take m bytes') (unfinished bytes ++ more) (drop m bytes' ++ more') first (subst (λ (k : ℕ). AlikeDays el (unfinished bytes ++ more) (drop k bytes' ++ more')) m' rest) whole)

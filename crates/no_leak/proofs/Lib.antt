@@ -5,6 +5,7 @@ pub mod AtOnce
 pub mod Adding
 pub mod PacketSteps
 pub mod PacketDays
+pub mod RefusedPackets
 pub mod Examples
 pub mod Calls
 pub mod DayCalls

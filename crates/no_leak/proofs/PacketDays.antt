@@ -30,11 +30,11 @@ use Rattle.no_leak.proofs.PacketSteps.{states-refl, one-packet, closing
 
 -- ---- packets one after another
 
-pending-is : (el : Elements) (bytes packet : List ℕ) (d : Day) → SoFar el bytes d → pending d packet ≡ unfinished bytes ++ packet
+pub pending-is : (el : Elements) (bytes packet : List ℕ) (d : Day) → SoFar el bytes d → pending d packet ≡ unfinished bytes ++ packet
 unfolding dayAfter
 pending-is el bytes packet d s = ap (λ (x : Day). pending x packet) (s .state-is) ∙ joined-is (unfinished bytes) packet
 
-elements-are : (el : Elements) (bytes : List ℕ) (d : Day) → SoFar el bytes d → d .elements ≡ el
+pub elements-are : (el : Elements) (bytes : List ℕ) (d : Day) → SoFar el bytes d → d .elements ≡ el
 unfolding dayAfter
 elements-are el bytes d s = ap (λ (x : Day). x .elements) (s .state-is)
 

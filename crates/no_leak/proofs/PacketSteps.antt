@@ -7,6 +7,7 @@ use native.Mathlib.Omega.{arith}
 use lib.Dec.{eqb, leb, ltb}
 use lib.ListN.{length, take, drop, replicate, length-drop}
 use lib.Seq.{take-at}
+use Rattle.refusal.specs.declared.Refusal.{Refusal}
 use Rattle.refusal.specs.declared.Refusal.the-variants as refusal
 use Rattle.elements.specs.Elements.{checked}
 use Rattle.elements.specs.declared.Elements.{Elements}
@@ -22,7 +23,7 @@ use Rattle.label_file.specs.File.{bodyOf}
 use Rattle.labelling.specs.Records.{records, labelAt, passesAt}
 use Rattle.packets.specs.declared.Day.{Day}
 use Rattle.packets.specs.declared.Outcome.{Outcome}
-use Rattle.packets.specs.declared.Outcome.the-variants.{Accepted}
+use Rattle.packets.specs.declared.Outcome.the-variants.{Accepted, Refused}
 use Rattle.packets.specs.declared.Step.{Step}
 use Rattle.packets.specs.Day.{isPassed, dayAllowed}
 use Rattle.packets.specs.Packet.{pending, completed, nextDay, refusedStep, packetStep, packetLabels, packetOutput, outputBy}
@@ -75,6 +76,21 @@ steps-alike false true short late place d e next next' before behind = record { 
 steps-alike false false true late place d e next next' before behind = record { same-outcome = refl; alike-days = before }
 steps-alike false false false true place d e next next' before behind = record { same-outcome = refl; alike-days = before }
 steps-alike false false false false place d e next next' before behind = record { same-outcome = refl; alike-days = behind }
+
+-- a refusal leaves the state
+step-leaves : (state many short late : Bool) (place : ℕ) (d next : Day) (r : Refusal) (p : ℕ) → stepBy state many short late place d next .outcome ≡ Refused r p → stepBy state many short late place d next .day ≡ d
+step-leaves true many short late place d next r p e = refl
+step-leaves false true short late place d next r p e = refl
+step-leaves false false true late place d next r p e = refl
+step-leaves false false false true place d next r p e = refl
+step-leaves false false false false place d next r p e = let z : _≡_ {A = ℕ} 0 1 = cc in absurd (omega arith)
+
+pub refused-leaves : (d : Day) (g : Given) (r : Refusal) (p : ℕ) → outcomeOf d g ≡ Refused r p → dayBehind d g ≡ d
+unfolding packetStep
+refused-leaves d g r p e =
+    let n = completed d (g .packet) in
+    let lead = leading (passesAt (d .elements) (pending d (g .packet))) n in
+    step-leaves (not (dayAllowed d)) (ltb 1_024 (d .counts .labels + n)) (ltb (length (g .output)) (labelSize * n)) (ltb lead n) (d .counts .labels + lead) d (nextDay d (g .packet)) r p e
 
 -- ---- one packet
 

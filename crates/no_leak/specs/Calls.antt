@@ -6,13 +6,11 @@ use mathlib.Core.List.{List, [], _∷_, _++_}
 use lib.ListN.{length, take, drop}
 use Rattle.label.specs.Codec.{AllBytes}
 use Rattle.trailer.specs.Trailer.{distanceBack}
-use Rattle.trailer.specs.declared.Counts.{Counts}
 use Rattle.trailer.specs.declared.Form.{Form}
 use Rattle.trailer.specs.declared.Form.the-variants.{Bytes24}
 use Rattle.labelling.specs.Records.{records}
 use Rattle.packets.specs.Packet.{pending, completed}
 use Rattle.packets.specs.Cutting.{Given, allBytes}
-use Rattle.buffers.specs.Answers.{addBytes}
 use Rattle.buffers.specs.Buffers.{elementsOf}
 use Rattle.day_buffer.specs.State.{dayOf}
 use Rattle.statuses.specs.Call.{BufferCall}

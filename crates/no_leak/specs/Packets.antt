@@ -10,7 +10,7 @@ use Rattle.trailer.specs.declared.Form.the-variants.{Bytes24}
 use Rattle.labelling.specs.Records.{records}
 use Rattle.packets.specs.declared.Day.{Day}
 use Rattle.packets.specs.declared.Outcome.{Outcome}
-use Rattle.packets.specs.declared.Outcome.the-variants.{Accepted}
+use Rattle.packets.specs.declared.Outcome.the-variants.{Accepted, Refused}
 use Rattle.packets.specs.Day.{openingStep}
 use Rattle.packets.specs.Packet.{pending, completed, packetStep, packetOutput}
 use Rattle.packets.specs.Closing.{closingStep, closingOutput}
@@ -118,3 +118,27 @@ abbrev pub InPackets : Type 0
 InPackets =
     (el : Elements) (gs hs : List Given) (last last' : List ℕ) → openingStep el .outcome ≡ Accepted → AlikeDays el (allBytes gs) (allBytes hs) → CutAlike gs hs
     → length last ≡ length last' → NoLeakIn (openingStep el .day) gs hs last last'
+
+-- ---- a day of which some packets are refused
+
+-- the packets that are accepted
+abbrev pub keptBy : Outcome → Given → List Given → List Given
+keptBy Accepted g gs = g ∷ gs
+keptBy (Refused refusal place) g gs = gs
+
+unfoldable pub kept : Day → List Given → List Given
+kept d [] = []
+kept d (g ∷ gs) = keptBy (outcomeOf d g) g (kept (dayBehind d g) gs)
+
+-- the states are those of the packets that are accepted, as if the others had not come; and what these have the same
+pub record SameKept (d : Day) (gs hs : List Given) (last last' : List ℕ) : Type 0 where
+  pub day-is : dayFrom d gs ≡ dayFrom d (kept d gs)
+  pub day-is' : dayFrom d hs ≡ dayFrom d (kept d hs)
+  pub all-accepted : AllAccepted d (kept d gs)
+  pub same-day : SameDay d (kept d gs) (kept d hs) last last'
+
+-- where each two packets, as the states take them, complete alike records (theorem `some-refused`)
+abbrev pub SomeRefused : Type 0
+SomeRefused =
+    (el : Elements) (gs hs : List Given) (last last' : List ℕ) → let d = openingStep el .day in openingStep el .outcome ≡ Accepted → GivenAlike d d gs hs → length last ≡ length last'
+    → SameKept d gs hs last last'
