@@ -39,8 +39,11 @@ use Rattle.extreme.specs.declared.Kind.the-variants.{Greatest}
 use Rattle.scale.specs.Figures.{wattsIn, trainingIn, nothing, withLabel, nextFile}
 use Rattle.scale.specs.Step.{figuresAllowed, firstLabels, scaling}
 use Rattle.scale.specs.declared.Figures.{Figures}
+use Rattle.packets.specs.Day.{openingStep}
+use Rattle.packets.specs.Cutting.{allBytes}
 use Rattle.no_leak.specs.Alike.{TrainingRecord, AlikeRecords}
-use Rattle.no_leak.specs.Examples.{satellite, five32, six32, nan32, ten, twelve, recordOf, threeRecords, firstDay, alikeDay, unlikeDay, figuresFor, greatestBy, AlikeExample, UnlikeExample}
+use Rattle.no_leak.specs.Packets.{CutAlike}
+use Rattle.no_leak.specs.Examples.{satellite, five32, six32, nan32, ten, twelve, recordOf, threeRecords, firstDay, alikeDay, unlikeDay, figuresFor, greatestBy, AlikeExample, PacketsExample, UnlikeExample}
 use Rattle.no_leak.proofs.FilesInBuffers.{scaledWith, scaled-is}
 
 -- ---- three records, whatever their volts
@@ -98,6 +101,15 @@ alike-days =
       withheld-reading = (refl, refl);
       test-reading = (refl, refl);
       greatest = (greatest-is five32 five32 five32 ten refl, greatest-is five32 six32 nan32 ten refl);
+    }
+
+pub alike-packets : PacketsExample
+unfolding openingStep satellite checked checkedTo7 refuseIf perigeeBelow inRange threeRecords recordOf bytes8 bytes4 allBytes CutAlike
+alike-packets =
+    record {
+      opened = refl;
+      alike = alike-days .alike;
+      cut-alike = (record { same-length = refl; same-room = refl }, (record { same-length = refl; same-room = refl }, tt));
     }
 
 first-training : TrainingRecord satellite (recordAt firstDay 0)

@@ -3,10 +3,10 @@
 -- nothing.
 use mathlib.Core.Path.{_≡_}
 use Prim.Native.Nat.{ℕ, _^_}
-use mathlib.Core.List.{List, _++_}
+use mathlib.Core.List.{List, [], _∷_, _++_}
 use lib.IntN.{pos}
 use lib.Ieee.{Float, binary32, ofBits}
-use lib.ListN.{length, replicate}
+use lib.ListN.{length, take, drop, replicate}
 use Rattle.endian.specs.LittleEndian.{bytes4, bytes8}
 use Rattle.elements.specs.declared.Elements.{Elements}
 use Rattle.telemetry.specs.declared.Reading.the-variants.{Missing, Valid}
@@ -21,7 +21,11 @@ use Rattle.scale.specs.Figures.{nothing}
 use Rattle.scale.specs.Step.{scaling}
 use Rattle.scale.specs.declared.Scaling.{Scaling}
 use Rattle.scale.specs.declared.Scaling.the-variants as scaled
+use Rattle.packets.specs.Day.{openingStep}
+use Rattle.packets.specs.Cutting.{Given, allBytes}
+use Rattle.packets.specs.declared.Outcome.the-variants.{Accepted}
 use Rattle.no_leak.specs.Alike.{AlikeDays}
+use Rattle.no_leak.specs.Packets.{CutAlike}
 
 -- ---- the days
 
@@ -101,6 +105,16 @@ pub record AlikeExample : Type 0 where
   pub withheld-reading : (labelAt satellite firstDay 1 .reading ≡ Valid ten) × (labelAt satellite alikeDay 1 .reading ≡ Valid twelve)
   pub test-reading : (labelAt satellite firstDay 2 .reading ≡ Valid ten) × (labelAt satellite alikeDay 2 .reading ≡ Missing)
   pub greatest : (greatestBy (figuresFor firstDay) ≡ Held ten) × (greatestBy (figuresFor alikeDay) ≡ Held ten)
+
+-- a day in two packets, cut within its second record
+abbrev pub twoPackets : List ℕ → List Given
+twoPackets day = record { packet = take 20 day; output = replicate 72 0 } ∷ record { packet = drop 20 day; output = replicate 72 0 } ∷ []
+
+-- So cut, the first two days are alike and cut alike, and their elements open a day (law `alike-packets`).
+pub record PacketsExample : Type 0 where
+  pub opened : openingStep satellite .outcome ≡ Accepted
+  pub alike : AlikeDays satellite (allBytes (twoPackets firstDay)) (allBytes (twoPackets alikeDay))
+  pub cut-alike : CutAlike (twoPackets firstDay) (twoPackets alikeDay)
 
 -- The third day differs from the first in the volts of the training record alone; it is not alike, and has other figures (law `unlike-days`).
 pub record UnlikeExample : Type 0 where
