@@ -54,8 +54,8 @@ impl Pair {
         }
     }
 
-    /// Makes a valid reading on the training side missing or saturated in the second day, where there is one: the
-    /// days are no longer alike. Its place.
+    /// Makes a valid reading on the training side missing or saturated in the second day, where there is one, so that
+    /// the days are not alike. Its place.
     pub fn spoil(&mut self, random: &mut Random) -> Option<usize> {
         let records = self.days[1].chunks_exact(RECORD_BYTES).zip(&self.sides).enumerate();
         let valid = records.filter(|(_, (record, side))| {

@@ -98,7 +98,7 @@ fn buffers(random: &mut Random, room: usize) -> [Vec<u8>; 2] {
     [(); 2].map(|()| random.bytes(room))
 }
 
-/// A file without all but the side of each label that is not on the training side.
+/// A file in which each label that is not on the training side keeps its side alone.
 fn training_alone(sides: &[Option<Side>], file: &[u8]) -> Vec<u8> {
     let mut file = file.to_vec();
     for (label, side) in file.chunks_exact_mut(LABEL_BYTES).zip(sides) {
@@ -201,7 +201,8 @@ fn leak(random: &mut Random, report: &mut Report, mut pair: Pair) {
     report.answer(LEAK);
 }
 
-/// Adds the rest of both days to the files of their first records, with either trailer, in buffers of the same size.
+/// Adds the rest of both days to the files of their first records, with either trailer, at the same place in buffers of
+/// the same size.
 fn by_adding(random: &mut Random, report: &mut Report, pair: &Pair) {
     let first = random.index(pair.sides.len() + 1);
     let cut = first * RECORD_BYTES;
