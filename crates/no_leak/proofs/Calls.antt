@@ -36,9 +36,8 @@ use Rattle.day_buffer.proofs.DaysBack.{day-back}
 use Rattle.figures_buffer.specs.FigureBytes.{figuresIn}
 use Rattle.statuses.specs.Call.{callOf, BufferOutcome, rejected, written, bufferCallOf}
 use Rattle.yurdelmiz.specs.Calls.{labelOutcome, dayOutcome, labelCall, addOutcome, addCall, scaleOutcome, scaleCall, stepOutcome, packetCall, closeCall}
-use Rattle.yurdelmiz.specs.CutDay.{takes}
 use Rattle.yurdelmiz.proofs.AcceptedCalls.{Ending, accepted, BufferEnding, buffer-accepted, label-accepted, add-accepted}
-use Rattle.yurdelmiz.proofs.CutDays.{step-by}
+use Rattle.yurdelmiz.proofs.CutDays.{step-by, taken}
 use Rattle.no_leak.specs.Files.{SameFiles, FilesBy}
 use Rattle.no_leak.specs.Adding.{fileFor}
 use Rattle.no_leak.specs.Packets.{AlikeStates, outcomeOf, SamePacket}
@@ -203,14 +202,6 @@ next-back day packet room all e =
     let back = day-back (nextDay d packet) (elements-held day (all .byte)) (plus-bounded (d .counts) counts (allowed-bare d (whole .allowed) .bounded) (counts-bounded (labelAt (d .elements) (pending d packet)) (completed d packet))) few in
     subst (λ (x : Day). dayOf (dayBytes x) ≡ x) (sym (ap (λ (s : Step). s .day) (whole .step-is))) back
 
--- what a packet call with status 0 gave
-pub packet-ended : (day : List ℕ) (g : Given) → takes day g .status ≡ 0
-    → (outcomeOf (dayOf day) g ≡ step.Accepted) × (takes day g .buffer ≡ packetOutput (dayOf day) (g .packet) (g .output)) × (takes day g .answer ≡ dayBytes (dayBehind (dayOf day) g))
-unfolding packetCall
-packet-ended day g ended =
-    let d = dayOf day in
-    step-by (takes day g) (outcomeOf d g) (dayBehind d g) (packetOutput d (g .packet) (g .output)) (buffer-accepted _ _ (g .output) day ended)
-
 -- two packets that are taken alike, where the bytes of the states behind them say these again
 pub packet-called : (day day' : List ℕ) (g h : Given) → length day ≡ length day' → AlikeStates (dayOf day) (dayOf day') → SamePacket (dayOf day) (dayOf day') g h
     → (outcomeOf (dayOf day) g ≡ step.Accepted → dayOf (dayBytes (dayBehind (dayOf day) g)) ≡ dayBehind (dayOf day) g)
@@ -227,8 +218,8 @@ packet-called day day' g h as-long states same back back' =
     record {
       same-status = status;
       same-training = λ ended.
-          let t = packet-ended day g ended in
-          let t' = packet-ended day' h (sym status ∙ ended) in
+          let t = taken day (g .packet) (g .output) ended in
+          let t' = taken day' (h .packet) (h .output) (sym status ∙ ended) in
           rw (t .1, t' .1) (same .same-training (t .0));
       as-long = in-answers day day' (g .output) (h .output) as-long next next' after after' (λ (a b : List ℕ). length a ≡ length b) (same .same-outcome) as-long
           (λ accepted. bytes-as-long d e g h accepted (sym (same .same-outcome) ∙ accepted) (same .alike-states .same-have));

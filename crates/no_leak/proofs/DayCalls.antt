@@ -1,5 +1,5 @@
 -- Alike days in packets, by the statuses and bytes of the C calls, from the opening to the finished files. Assumes nothing.
-use mathlib.Core.Path.{_≡_, refl, sym, ap, subst, _∙_}
+use mathlib.Core.Path.{_≡_, refl, sym, subst, _∙_}
 use mathlib.Core.List.{List, [], _∷_, _++_}
 use Prim.Native.Nat.{ℕ}
 use lib.ListN.{length}
@@ -14,20 +14,14 @@ use Rattle.buffers.proofs.ElementsBack.{elements-held}
 use Rattle.day_buffer.specs.State.{dayOf, dayBytes}
 use Rattle.yurdelmiz.specs.Calls.{openCall}
 use Rattle.yurdelmiz.specs.CutDay.{takes, dayCalled, AllEnd}
-use Rattle.yurdelmiz.proofs.CutDays.{state-back, opened, first, one-go}
+use Rattle.yurdelmiz.proofs.CutDays.{state-back, taken, answer-is, opened, first, one-go}
 use Rattle.no_leak.specs.Packets.{AlikeStates, CutAlike, outcomeOf, SamePacket, PacketByPacket}
 use Rattle.no_leak.specs.Calls.{SamePacketCalled, CallByCall, DayCalls}
 use Rattle.no_leak.proofs.PacketSteps.{states-refl}
 use Rattle.no_leak.proofs.PacketDays.{finished, in-packets}
-use Rattle.no_leak.proofs.Calls.{files-called, packet-ended, packet-called, close-calls}
+use Rattle.no_leak.proofs.Calls.{files-called, packet-called, close-calls}
 
 -- ---- packets one after another
-
--- a state by the bytes it has taken, in its buffer
-next-called : (el : Elements) (bytes day : List ℕ) (g : Given) → Held el → SoFar el bytes (dayOf day) → takes day g .status ≡ 0 → dayOf (takes day g .answer) ≡ dayBehind (dayOf day) g
-next-called el bytes day g held s ended =
-    let t = packet-ended day g ended in
-    ap dayOf (t .2) ∙ state-back el (bytes ++ g .packet) (dayBehind (dayOf day) g) held (packet-keeps el bytes (g .packet) (dayOf day) (length (g .output)) s (t .0))
 
 by-calls : (el : Elements) (bytes bytes' day day' : List ℕ) (gs hs : List Given) → Held el → SoFar el bytes (dayOf day) → SoFar el bytes' (dayOf day') → AlikeStates (dayOf day) (dayOf day') → length day ≡ length day'
     → PacketByPacket (dayOf day) (dayOf day') gs hs → CallByCall day day' gs hs
@@ -45,10 +39,10 @@ by-calls el bytes bytes' day day' (g ∷ gs) (h ∷ hs) held s t states as-long 
       alike,
       λ ended.
           let ended' = sym (alike .same-status) ∙ ended in
-          let p = packet-ended day g ended in
-          let q = packet-ended day' h ended' in
-          let is = next-called el bytes day g held s ended in
-          let is' = next-called el bytes' day' h held t ended' in
+          let p = taken day (g .packet) (g .output) ended in
+          let q = taken day' (h .packet) (h .output) ended' in
+          let is = answer-is day (g .packet) (g .output) ended el bytes held s in
+          let is' = answer-is day' (h .packet) (h .output) ended' el bytes' held t in
           by-calls el (bytes ++ g .packet) (bytes' ++ h .packet) (takes day g .answer) (takes day' h .answer) gs hs held
           (subst (SoFar el (bytes ++ g .packet)) (sym is) (packet-keeps el bytes (g .packet) d (length (g .output)) s (p .0)))
           (subst (SoFar el (bytes' ++ h .packet)) (sym is') (packet-keeps el bytes' (h .packet) e (length (h .output)) t (q .0)))
@@ -86,13 +80,13 @@ day-calls elements day gs hs last last' all ended alike cut same-room =
     let calls : CallByCall start start gs hs = by-calls el [] [] start start gs hs held so-far so-far (states-refl (dayOf start)) refl (rw is packets) in (
       calls,
       λ ends.
-          let taken = all-called start start gs hs refl (states-refl (dayOf start)) cut calls ends in
-          let closing = close-calls (dayCalled start gs) (dayCalled start hs) last last' (taken .as-long) (taken .alike-states) same-room in
+          let both-end = all-called start start gs hs refl (states-refl (dayOf start)) cut calls ends in
+          let closing = close-calls (dayCalled start gs) (dayCalled start hs) last last' (both-end .as-long) (both-end .alike-states) same-room in
           record {
-            all-end = taken .all-end;
+            all-end = both-end .all-end;
             same-status = closing .0;
             finished = λ closed.
-                let files = finished el _ _ _ _ _ _ alike (one-go elements day (all .byte) ended gs last ends closed) (one-go elements day (all .byte) ended hs last' (taken .all-end) (sym (closing .0) ∙ closed)) in
+                let files = finished el _ _ _ _ _ _ alike (one-go elements day (all .byte) ended gs last ends closed) (one-go elements day (all .byte) ended hs last' (both-end .all-end) (sym (closing .0) ∙ closed)) in
                 record { same-length = files .same-length; same-files = files-called (files .same-files) };
           },
     )

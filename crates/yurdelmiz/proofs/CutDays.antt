@@ -67,7 +67,7 @@ module _ (day packet output : List ℕ) (ended : packetCall day packet output .s
   abbrev d : Day
   d = dayOf day
 
-  taken : (packetStep (dayOf day) packet (length output) .outcome ≡ Accepted) × (packetCall day packet output .buffer ≡ packetOutput (dayOf day) packet output) × (packetCall day packet output .answer ≡ dayBytes (packetStep (dayOf day) packet (length output) .day))
+  pub taken : (packetStep (dayOf day) packet (length output) .outcome ≡ Accepted) × (packetCall day packet output .buffer ≡ packetOutput (dayOf day) packet output) × (packetCall day packet output .answer ≡ dayBytes (packetStep (dayOf day) packet (length output) .day))
   unfolding packetCall
   taken = step-by (packetCall day packet output) (packetStep d packet (length output) .outcome) (packetStep d packet (length output) .day) (packetOutput d packet output) (buffer-accepted _ _ output day ended)
 
@@ -75,7 +75,7 @@ module _ (day packet output : List ℕ) (ended : packetCall day packet output .s
     next : SoFar el (bytes ++ packet) (packetStep (dayOf day) packet (length output) .day)
     next = packet-keeps el bytes packet d (length output) s (taken .0)
 
-    answer-is : dayOf (packetCall day packet output .answer) ≡ packetStep (dayOf day) packet (length output) .day
+    pub answer-is : dayOf (packetCall day packet output .answer) ≡ packetStep (dayOf day) packet (length output) .day
     answer-is = ap dayOf (taken .2) ∙ state-back el (bytes ++ packet) _ held next
 
     -- as many labels as YURDELMIZ_DAY_LABELS has grown by
