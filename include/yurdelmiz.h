@@ -65,6 +65,15 @@ enum {
     /* Half the derivative of the mean motion beyond +-1,000,000 (10^-8 revolutions a day squared), or
      * the mean motion less 60 times its size below 20,000,000. */
     YURDELMIZ_MEAN_MOTION_DERIVATIVE = 16,
+    /* Two-line elements: a line not of 69 bytes, or whose first byte is not its number. */
+    YURDELMIZ_LINES = 17,
+    /* Two-line elements: the last byte of a line is not its checksum. */
+    YURDELMIZ_CHECKSUM = 18,
+    /* Two-line elements: a field that is no number of its layout, an angle of 360 degrees or more, or a day
+     * outside its year. */
+    YURDELMIZ_FIELD = 19,
+    /* Two-line elements: the lines have different satellite numbers. */
+    YURDELMIZ_SATELLITE_NUMBERS = 20,
     /* `day` is closed, or is no state of a day. */
     YURDELMIZ_DAY = 24,
     /* No refusal of the table: `elements`, `day`, `figures` or `answer` is not of the length given here. */
@@ -123,9 +132,10 @@ enum { YURDELMIZ_TAIL_BYTES = 24 };
 /* The parts of a result of 64 bits: the status; from yurdelmiz_label, yurdelmiz_add, yurdelmiz_read,
  * yurdelmiz_scale, yurdelmiz_packet and yurdelmiz_close the place of a refusal, which is the number of the
  * record or label from 0, in yurdelmiz_add that of the record's label in the whole file, in yurdelmiz_packet
- * that of the record in the whole day, and 0 where none applies; from yurdelmiz_elements the line of a
- * fault, from 1, and the number from 0 of the element that was due there, in the order of the file, 12
- * behind the last. */
+ * that of the record in the whole day, and 0 where none applies; from yurdelmiz_two_line the place of a
+ * refusal, which is the first column of the field, from 1, on the second line from 70, and 0 where no field is
+ * at fault; from yurdelmiz_elements the line of a fault, from 1, and the number from 0 of the element that was
+ * due there, in the order of the file, 12 behind the last. */
 #define YURDELMIZ_STATUS(result) ((uint32_t)((result) & 0xffffffffu))
 #define YURDELMIZ_PLACE(result) ((uint32_t)((result) >> 32))
 #define YURDELMIZ_LINE(result) ((uint32_t)((result) >> 32) & 0xffffffu)
@@ -216,6 +226,34 @@ uint32_t yurdelmiz_shade(int64_t x, int64_t y, int64_t z,
  *   answer, 52 bytes: `elements`, as above
  */
 uint64_t yurdelmiz_elements(const uint8_t *text, size_t text_len,
+                            uint8_t *answer, size_t answer_len);
+
+/* Reads two-line elements, a line of 69 bytes each without what ends it, and beside them the semi-major axis in
+ * metres and the drift rates of node and perigee in 10^-4 degree a day, which the lines do not have. Columns
+ * count from 1. A checksum is the sum modulo 10 of the digits in the first 68 columns, a minus counting 1; all
+ * columns count, but only those below are looked at otherwise.
+ *
+ *   first, line 1:                          second, line 2:
+ *      3 -  7  satellite number                3 -  7  satellite number
+ *     19 - 20  year of the epoch               9 - 16  inclination, degrees
+ *     21 - 32  day of the year                18 - 25  node, degrees
+ *     34 - 43  half the first derivative      27 - 33  eccentricity, its point implied
+ *              of the mean motion             35 - 42  argument of perigee, degrees
+ *                                             44 - 51  mean anomaly, degrees
+ *                                             53 - 63  mean motion, revolutions a day
+ *                                             64 - 68  revolution at the epoch
+ *
+ * Leading blanks stand for zeros in satellite numbers and the revolution, and ahead of the point in angles and
+ * the mean motion. The years 57 to 99 are 1957 to 1999, and 00 to 56 are 2000 to 2056. The epoch is moved back to
+ * its full second, and with it the mean anomaly and the number of the revolution. Refusals 17, 18, 20 at place
+ * 0, 19 ahead of 20 at the first column of the first bad field; then 1 to 7, 16 and 8 for the elements, at
+ * place 0.
+ *
+ *   answer, 52 bytes: `elements`, as above
+ */
+uint64_t yurdelmiz_two_line(const uint8_t *first, size_t first_len,
+                            const uint8_t *second, size_t second_len,
+                            uint32_t semi_major_axis, int32_t node_rate, int32_t perigee_rate,
                             uint8_t *answer, size_t answer_len);
 
 /* Labels a day's telemetry: 24 bytes a record from the start of `output`, then the trailer's 24.

@@ -98,6 +98,19 @@ extern "C" {
         answer_len: usize,
     ) -> u64;
 
+    /// Reads two-line elements.
+    pub fn yurdelmiz_two_line(
+        first: *const u8,
+        first_len: usize,
+        second: *const u8,
+        second_len: usize,
+        semi_major_axis: u32,
+        node_rate: i32,
+        perigee_rate: i32,
+        answer: *mut u8,
+        answer_len: usize,
+    ) -> u64;
+
     /// Labels a day's telemetry.
     pub fn yurdelmiz_label(
         elements: *const u8,

@@ -80,6 +80,7 @@ mod tail;
 mod telemetry;
 mod trailer;
 mod trig;
+mod two_line;
 mod unknown_byte;
 
 pub use day::Day;
@@ -99,4 +100,5 @@ pub use tail::dark_test;
 pub use telemetry::{Reading, Sample};
 pub use trailer::{Counts, Form};
 pub use trig::{cosine, sine};
+pub use two_line::{parse_two_line, TwoLineField};
 pub use unknown_byte::UnknownByte;

@@ -41,12 +41,20 @@ pub enum Refusal {
     /// 16: half of it beyond 1,000,000 units of 10^-8 revolution a day squared either way, or the mean
     /// motion less 60 times its size below 20,000,000 units.
     MeanMotionDerivative,
+    /// 17: of two-line elements, not of 69 bytes, or with another number than its own at the start.
+    Lines,
+    /// 18: of a line of two-line elements, not its last byte.
+    Checksum,
+    /// 19: of two-line elements, no number of its layout, 360 degrees or more, or a day outside its year.
+    Field,
+    /// 20: of the two lines, not the same.
+    SatelliteNumbers,
     /// 24: closed, or no state of a day.
     Day,
 }
 
 /// Each refusal with its number and its sentence.
-const TABLE: [(Refusal, u32, &str); 16] = [
+const TABLE: [(Refusal, u32, &str); 20] = [
     (Refusal::Eccentricity, 1, "the eccentricity is above 0.9"),
     (Refusal::SemiMajorAxis, 2, "the semi-major axis is not within 6,600 to 100,000 km"),
     (Refusal::PerigeeDistance, 3, "the perigee is less than 6,478 km from the Earth's centre"),
@@ -62,6 +70,10 @@ const TABLE: [(Refusal, u32, &str); 16] = [
     (Refusal::Component, 14, "a position or the Sun's direction is out of range"),
     (Refusal::Figures, 15, "the figures have 1,000 files already, or are beyond a bound of theirs"),
     (Refusal::MeanMotionDerivative, 16, "half the mean motion's derivative is beyond 0.01 revolutions a day squared, or brings the mean motion below 0.2 revolutions a day within 30 days of the epoch"),
+    (Refusal::Lines, 17, "a line of the two has not 69 characters, or does not begin with its number"),
+    (Refusal::Checksum, 18, "a line of the two does not end with its checksum"),
+    (Refusal::Field, 19, "a field of the two lines is not a number as its columns have it, or is 360 degrees or more, or a day outside its year"),
+    (Refusal::SatelliteNumbers, 20, "the two lines have different satellite numbers"),
     (Refusal::Day, 24, "the day is closed, or its state is none of a day"),
 ];
 
@@ -95,12 +107,13 @@ impl fmt::Display for Refusal {
 impl Error for Refusal {}
 
 /// A refusal from labelling, packets, reading, adding or scale figures, with the number of the record or label from 0,
-/// which in packets counts over the whole day, and in adding over the whole file.
+/// which in packets counts over the whole day, and in adding over the whole file; or one of two-line elements, with
+/// the first column of a field, from 1, on the second line from 70.
 #[derive(Clone, Copy, Debug, PartialEq, Eq, Hash)]
 pub struct Refused {
     /// Why.
     pub refusal: Refusal,
-    /// 0 where no record or label is at fault.
+    /// 0 where no record, label or field is at fault.
     pub place: u32,
 }
 
