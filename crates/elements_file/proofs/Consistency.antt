@@ -16,7 +16,8 @@ use Rattle.elements_file.specs.Names.{nameByte}
 use Rattle.elements_file.proofs.Bytes.{name-inside}
 use Rattle.elements_file.proofs.Choices.{choice}
 use Rattle.elements_file.proofs.Magnitudes.{fits-unsigned, fits-rate, fits-epoch}
-use Rattle.elements_file.specs.Numbers.{isRate, isEpoch, largest, grown, isDigit, takesMinus, signedOf}
+use Rattle.digit.specs.Digit.{isDigit}
+use Rattle.elements_file.specs.Numbers.{isRate, isEpoch, largest, grown, takesMinus, signedOf}
 use Rattle.elements_file.specs.Lines.{refused, named, counted, valued, begun, within}
 use Rattle.elements_file.specs.Fields.{stored}
 use Rattle.elements_file.specs.Reading.{start, at, ended, step, afterBytes, concluded, parsed}

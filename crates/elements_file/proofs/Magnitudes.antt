@@ -11,7 +11,7 @@ use lib.Signed.{mag}
 use mir.Syntax.{Width, w32, w64}
 use mir.Val.{hbits, SFits}
 use Rattle.integer.proofs.Tests.{and-true}
-use Rattle.elements_file.specs.Numbers.{largest, isRate, isEpoch, isDigit, signedOf}
+use Rattle.elements_file.specs.Numbers.{largest, isRate, isEpoch, signedOf}
 use Rattle.elements_file.specs.declared.number.Number.{Number}
 
 -- the epoch holds the most, and no element less than a digit
@@ -77,9 +77,3 @@ fits-epoch element n h t = fits-signed w64 (2 ^ 63 - 1) n refl (rw (eqb-true ele
 pub below-zero : (m : ℕ) → (m ≡ 0 → ⊥) → negsuc (m - 1) ≡ negℤ (pos m)
 below-zero zero h = absurd (h refl)
 below-zero (suc m) h = ap negsuc (omega arith)
-
--- ---- a digit
-pub digit-range : (byte : ℕ) → isDigit byte ≡ true → (48 ≤ byte) × (byte ≤ 57)
-digit-range byte e =
-    let two = and-true (leb 48 byte) (leb byte 57) e in
-    (leb-true 48 byte (two .0), leb-true byte 57 (two .1))

@@ -2,8 +2,9 @@
 use Prim.Native.Nat.{ℕ, _+_, _-_}
 use mathlib.Core.Bool.{cond}
 use lib.Dec.{eqb, ltb, leb}
+use Rattle.digit.specs.Digit.{isDigit}
 use Rattle.elements_file.specs.Names.{nameByte}
-use Rattle.elements_file.specs.Numbers.{largest, unwritten, minus, takesMinus, grown, isDigit}
+use Rattle.elements_file.specs.Numbers.{largest, unwritten, minus, takesMinus, grown}
 use Rattle.elements_file.specs.declared.Fault.{Fault}
 use Rattle.elements_file.specs.declared.Fault.the-variants.{Name, Extra, ControlByte, DecimalPoint, NotWhole, TooLarge}
 use Rattle.elements_file.specs.declared.line.Place.{Place}

@@ -1,7 +1,7 @@
 -- Numbers as an elements file writes them, and what each element holds. Assumes nothing.
 use Prim.Native.Nat.{ℕ, _+_, _*_, _-_, _^_}
 use mathlib.Core.Bool.{Bool, true, false, _||_, _&&_, not, cond}
-use lib.Dec.{eqb, leb}
+use lib.Dec.{eqb}
 use lib.IntN.{ℤ, pos, negℤ}
 use Rattle.elements_file.specs.declared.number.Number.{Number}
 
@@ -39,9 +39,6 @@ takesMinus element n = not (n .negative) && not (n .digits) && isSigned element
 -- a further digit
 abbrev pub grown : Number → ℕ → Number
 grown n digit = record { negative = n .negative; digits = true; magnitude = 10 * n .magnitude + digit }
-
-abbrev pub isDigit : ℕ → Bool
-isDigit byte = leb 48 byte && leb byte 57
 
 unfoldable pub signedOf : Number → ℤ
 signedOf n = cond (n .negative) (negℤ (pos (n .magnitude))) (pos (n .magnitude))

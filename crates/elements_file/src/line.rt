@@ -63,7 +63,7 @@ fn counted(element: u32, number: Number, digit: u64) -> Place
 fn valued(element: u32, number: Number, byte: u8) -> Place
     ensures { λ r. ⌜ r ≡ valued element number byte ⌝ }
 {
-    if number::is_digit(byte) {
+    if digit::is_digit(byte) {
         return counted(element, number, (byte - b'0') as u64);
     }
     if byte == b'-' {

@@ -1,7 +1,7 @@
 // Numbers as an elements file writes them.
 ghost use mathlib.Core.Path.{_≡_};
 ghost use Prim.Native.Nat.{_≤_};
-ghost use Rattle.elements_file.specs.Numbers.{isRate, isDigit, takesMinus, largest, signedOf};
+ghost use Rattle.elements_file.specs.Numbers.{isRate, takesMinus, largest, signedOf};
 
 // A minus or none, whether a digit stands yet, and the digits' number.
 pub struct Number {
@@ -36,15 +36,6 @@ pub(crate) fn largest(element: u32, negative: bool) -> u64
         return 0x7fff_ffff;
     }
     0xffff_ffff
-}
-
-pub(crate) fn is_digit(byte: u8) -> bool
-    ensures { λ r. ⌜ r ≡ isDigit byte ⌝ }
-{
-    if byte < b'0' {
-        return false;
-    }
-    byte <= b'9'
 }
 
 impl Number {

@@ -6,7 +6,7 @@ use lib.Dec.{eqb}
 use native.Mathlib.Omega.{arith}
 use Rattle.refusal.specs.Numbers.{numberOf}
 use Rattle.refusal.specs.declared.Refusal.{Refusal}
-use Rattle.refusal.specs.declared.Refusal.the-variants.{Eccentricity, SemiMajorAxis, PerigeeDistance, Inclination, MeanMotion, DriftRate, EpochRevolution, Time, TelemetryLength, OutputLength, Trailer, Labels, Component, Figures, MeanMotionDerivative, Day}
+use Rattle.refusal.specs.declared.Refusal.the-variants.{Eccentricity, SemiMajorAxis, PerigeeDistance, Inclination, MeanMotion, DriftRate, EpochRevolution, Time, TelemetryLength, OutputLength, Trailer, Labels, Component, Figures, MeanMotionDerivative, Lines, Checksum, Field, SatelliteNumbers, Day}
 
 numbers : (r : Refusal) → (1 ≤ numberOf r) × (numberOf r ≡ 9 → ⊥)
 numbers Eccentricity = (omega arith, omega arith)
@@ -24,6 +24,10 @@ numbers Labels = (omega arith, omega arith)
 numbers Component = (omega arith, omega arith)
 numbers Figures = (omega arith, omega arith)
 numbers MeanMotionDerivative = (omega arith, omega arith)
+numbers Lines = (omega arith, omega arith)
+numbers Checksum = (omega arith, omega arith)
+numbers Field = (omega arith, omega arith)
+numbers SatelliteNumbers = (omega arith, omega arith)
 numbers Day = (omega arith, omega arith)
 
 -- 0 is the status of what was accepted
@@ -50,7 +54,11 @@ named n =
     (cond (eqb n 13) Labels
     (cond (eqb n 14) Component
     (cond (eqb n 15) Figures
-    (cond (eqb n 16) MeanMotionDerivative Day))))))))))))))
+    (cond (eqb n 16) MeanMotionDerivative
+    (cond (eqb n 17) Lines
+    (cond (eqb n 18) Checksum
+    (cond (eqb n 19) Field
+    (cond (eqb n 20) SatelliteNumbers Day))))))))))))))))))
 
 named-is : (r : Refusal) → named (numberOf r) ≡ r
 unfolding named
@@ -69,6 +77,10 @@ named-is Labels = refl
 named-is Component = refl
 named-is Figures = refl
 named-is MeanMotionDerivative = refl
+named-is Lines = refl
+named-is Checksum = refl
+named-is Field = refl
+named-is SatelliteNumbers = refl
 named-is Day = refl
 
 -- no two refusals have one number

@@ -1,7 +1,7 @@
 -- The number of each refusal: document 01, "When the build says no". Assumes nothing.
 use Prim.Native.Nat.{ℕ}
 use Rattle.refusal.specs.declared.Refusal.{Refusal}
-use Rattle.refusal.specs.declared.Refusal.the-variants.{Eccentricity, SemiMajorAxis, PerigeeDistance, Inclination, MeanMotion, DriftRate, EpochRevolution, Time, TelemetryLength, OutputLength, Trailer, Labels, Component, Figures, MeanMotionDerivative, Day}
+use Rattle.refusal.specs.declared.Refusal.the-variants.{Eccentricity, SemiMajorAxis, PerigeeDistance, Inclination, MeanMotion, DriftRate, EpochRevolution, Time, TelemetryLength, OutputLength, Trailer, Labels, Component, Figures, MeanMotionDerivative, Lines, Checksum, Field, SatelliteNumbers, Day}
 
 abbrev pub numberOf : Refusal → ℕ
 -- e above 9,000,000
@@ -35,5 +35,13 @@ numberOf Component = 14
 numberOf Figures = 15
 -- half the derivative of the mean motion beyond ±1,000,000, or n less 60 times its size below 20,000,000
 numberOf MeanMotionDerivative = 16
+-- a line of two-line elements not of 69 bytes, or whose first is not its number
+numberOf Lines = 17
+-- a line of two-line elements that does not end with its checksum
+numberOf Checksum = 18
+-- a field of two-line elements that is no number of its layout, 360 degrees or more, or a day outside its year
+numberOf Field = 19
+-- the satellite numbers of two lines differ
+numberOf SatelliteNumbers = 20
 -- a closed day, or what is no state of a day
 numberOf Day = 24

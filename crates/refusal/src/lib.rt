@@ -18,6 +18,10 @@ pub enum Refusal {
     Component,
     Figures,
     MeanMotionDerivative,
+    Lines,
+    Checksum,
+    Field,
+    SatelliteNumbers,
     Day,
 }
 
@@ -42,6 +46,10 @@ impl Refusal {
             Refusal::Component => 14,
             Refusal::Figures => 15,
             Refusal::MeanMotionDerivative => 16,
+            Refusal::Lines => 17,
+            Refusal::Checksum => 18,
+            Refusal::Field => 19,
+            Refusal::SatelliteNumbers => 20,
             Refusal::Day => 24,
         }
     }

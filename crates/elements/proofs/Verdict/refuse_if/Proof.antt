@@ -14,7 +14,7 @@ returns-2 c = rw (c .before .enum-told .given .1, c .if1 .taken)
 
 returns-3 : tie.Need-returns-3
 unfolding refuseIf
-returns-3 c = search needs
+returns-3 c = rw (c .before .enum-told .given .1, c .if1 .left)
 
 pub refuse-if-spec : {M : Type 1} → statement M
 refuse-if-spec = tie.close (tie.spec (λ c. search needs) (λ c. search needs) returns returns-2 returns-3)

@@ -4,7 +4,7 @@ use mathlib.Core.Path.{sym, _∙_}
 use native.Mathlib.Omega.{arith}
 use borrow.Author.Tests.{eq-eqb, ne-eqb}
 use Rattle.elements_file.specs.Lines.{valued}
-use Rattle.elements_file.proofs.Magnitudes.{digit-range}
+use Rattle.digit.proofs.Range.{digit-range}
 use Rattle.elements_file.proofs.line.valued.Statement.{statement}
 use Rattle.elements_file.proofs.line.valued.Tie as tie
 

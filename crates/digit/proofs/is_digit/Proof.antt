@@ -1,7 +1,7 @@
--- `elements_file::number::is_digit` meets its contract. Assumes nothing.
+-- `digit::is_digit` meets its contract. Assumes nothing.
 use borrow.Author.Tests.{lt-leb, le-leb}
-use Rattle.elements_file.proofs.number.is_digit.Statement.{statement}
-use Rattle.elements_file.proofs.number.is_digit.Tie as tie
+use Rattle.digit.proofs.is_digit.Statement.{statement}
+use Rattle.digit.proofs.is_digit.Tie as tie
 
 returns : tie.Need-returns
 returns c = rw (lt-leb _ _ (c .if1 .taken))

@@ -1,0 +1,161 @@
+// Two-line elements: document 01, "Two-line elements".
+mod calendar;
+mod epoch;
+mod field;
+mod line;
+
+use elements::Elements;
+use elements::Verdict;
+use field::Decimal;
+use field::Form;
+use refusal::Refusal;
+ghost use mathlib.Core.Path.{_≡_};
+ghost use mathlib.Core.Bool.{cond};
+ghost use Prim.Native.Nat.{_-_, _^_, _≤_, min};
+ghost use Rattle.trig.specs.Angle.{angleOf};
+ghost use Rattle.two_line.specs.declared.field.Form.the-variants.{Angle};
+ghost use Rattle.two_line.specs.Fields.{valueOf, badFrom};
+ghost use Rattle.two_line.specs.Layout.{firstLine, secondLine, motion};
+ghost use Rattle.two_line.specs.Reading.{derivativeOf, takenWith, reading};
+
+pub enum TwoLineReading {
+    Taken(Elements),
+    // With the first column of a field, on the second line with the 69 of the first ahead of it; 0 where no
+    // field is at fault.
+    Refused(Refusal, u32),
+}
+
+// The place of a field that is not sound, or else the one that follows.
+fn place_or(field: Decimal, place: u32, later: u32) -> u32
+    ensures { λ r. ⌜ r ≡ cond (field .sound) later place ⌝ }
+{
+    if field.sound { later } else { place }
+}
+
+fn bad_in_first(first: &[u8], later: u32) -> u32
+    ensures { λ r. ⌜ r ≡ badFrom 0 (now (first .entry)) firstLine later ⌝ }
+{
+    let derivative = place_or(field::field(first, 34, Form::HalfDerivative), 34, later);
+    let day = place_or(field::field(first, 21, Form::Day), 21, derivative);
+    let year = place_or(field::field(first, 19, Form::Year), 19, day);
+    place_or(field::field(first, 3, Form::Number), 3, year)
+}
+
+fn bad_in_second(second: &[u8]) -> u32
+    ensures { λ r. ⌜ r ≡ badFrom 69 (now (second .entry)) secondLine 0 ⌝ }
+{
+    let revolution = place_or(field::field(second, 64, Form::Number), 69 + 64, 0);
+    let motion = place_or(
+        field::field(second, 53, Form::MeanMotion),
+        69 + 53,
+        revolution,
+    );
+    let anomaly = place_or(field::field(second, 44, Form::Angle), 69 + 44, motion);
+    let perigee = place_or(field::field(second, 35, Form::Angle), 69 + 35, anomaly);
+    let eccentricity = place_or(
+        field::field(second, 27, Form::Eccentricity),
+        69 + 27,
+        perigee,
+    );
+    let node = place_or(field::field(second, 18, Form::Angle), 69 + 18, eccentricity);
+    let inclination = place_or(field::field(second, 9, Form::Angle), 69 + 9, node);
+    place_or(field::field(second, 3, Form::Number), 69 + 3, inclination)
+}
+
+// A minus makes it negative.
+fn half_derivative(first: &[u8]) -> i32
+    ensures { λ r. ⌜ r ≡ derivativeOf (now (first .entry)) ⌝ }
+{
+    let size = field::value(first, 34, Form::HalfDerivative);
+    if field::byte(first, 34) == b'-' {
+        return -(size as i32);
+    }
+    size as i32
+}
+
+// The mean motion of line 2, as far as 32 bits hold it: 5 refuses the greatest number that they hold.
+fn mean_motion(second: &[u8]) -> u32
+    ensures { λ r. ⌜ r ≡ min (valueOf (now (second .entry)) motion) (2 ^ 32 - 1) ⌝ }
+{
+    let value = field::value(second, 53, Form::MeanMotion);
+    if value < 0x1_0000_0000 {
+        return value as u32;
+    }
+    0xffff_ffff
+}
+
+fn angle(line: &[u8], column: u32) -> u32
+    requires { ⌜ (1 ≤ column) × (column ≤ 69) ⌝ }
+    ensures { λ r. ⌜ r ≡ angleOf (valueOf (now (line .entry)) (record { column = column; form = Angle })) ⌝ }
+{
+    trig::angle(field::value(line, column, Form::Angle) as u32)
+}
+
+// The elements of two lines, with the mean motion n.
+fn taken_with(
+    n: u32,
+    first: &[u8],
+    second: &[u8],
+    semi_major_axis: u32,
+    node_rate: i32,
+    perigee_rate: i32,
+) -> Elements
+    ensures { λ r. ⌜ r ≡ takenWith n (now (first .entry)) (now (second .entry)) «semi_major_axis» «node_rate» «perigee_rate» ⌝ }
+{
+    let perigee = angle(second, 35);
+    let anomaly = angle(second, 44);
+    let amount = epoch::amount(n, first);
+    let number = field::value(second, 64, Form::Number) as u32;
+    Elements {
+        eccentricity: field::value(second, 27, Form::Eccentricity) as u32,
+        semi_major_axis,
+        inclination: angle(second, 9),
+        node: angle(second, 18),
+        argument_of_perigee: perigee,
+        mean_anomaly: epoch::moved_back(anomaly, amount),
+        mean_motion: n,
+        node_rate,
+        perigee_rate,
+        epoch_revolution: epoch::revolution_back(number, anomaly as u64 + perigee as u64, amount),
+        epoch: epoch::epoch(first),
+        half_mean_motion_derivative: half_derivative(first),
+    }
+}
+
+// The elements of two lines, with the semi-major axis and the drift rates beside them; or refusals 17, 18, 19,
+// 20, in this order, then those of elements.
+pub fn read(
+    first: &[u8],
+    second: &[u8],
+    semi_major_axis: u32,
+    node_rate: i32,
+    perigee_rate: i32,
+) -> TwoLineReading
+    ensures { λ r. ⌜ r ≡ reading (now (first .entry)) (now (second .entry)) «semi_major_axis» «node_rate» «perigee_rate» ⌝ }
+{
+    if !line::both_begin(first, second) {
+        return TwoLineReading::Refused(Refusal::Lines, 0);
+    }
+    if !line::both_checksums_hold(first, second) {
+        return TwoLineReading::Refused(Refusal::Checksum, 0);
+    }
+    let place = bad_in_first(first, bad_in_second(second));
+    if place != 0 {
+        return TwoLineReading::Refused(Refusal::Field, place);
+    }
+    if field::value(first, 3, Form::Number) != field::value(second, 3, Form::Number) {
+        return TwoLineReading::Refused(Refusal::SatelliteNumbers, 0);
+    }
+    let elements = taken_with(
+        mean_motion(second),
+        first,
+        second,
+        semi_major_axis,
+        node_rate,
+        perigee_rate,
+    );
+    match elements::check(elements) {
+        Verdict::Refused(refusal) => TwoLineReading::Refused(refusal, 0),
+        Verdict::Passed => TwoLineReading::Taken(elements),
+    }
+}

@@ -1,0 +1,49 @@
+// What is asked of each line whole.
+use crate::field;
+ghost use mathlib.Core.Path.{_≡_};
+ghost use mathlib.Core.Bool.{_&&_};
+ghost use Rattle.two_line.specs.Lines.{begins, weight, checksumHolds};
+
+// 69 bytes, and the line's number first.
+fn begins(number: u8, line: &[u8]) -> bool
+    ensures { λ r. ⌜ r ≡ begins number (now (line .entry)) ⌝ }
+{
+    if line.len() != 69 {
+        return false;
+    }
+    field::byte(line, 1) == number
+}
+
+pub(crate) fn both_begin(first: &[u8], second: &[u8]) -> bool
+    ensures { λ r. ⌜ r ≡ (begins 49 (now (first .entry)) && begins 50 (now (second .entry))) ⌝ }
+{
+    begins(b'1', first) && begins(b'2', second)
+}
+
+fn weight(byte: u8) -> u64
+    ensures { λ r. ⌜ r ≡ weight byte ⌝ }
+{
+    if byte == b'-' {
+        return 1;
+    }
+    digit::value(byte)
+}
+
+// Whether column 69 has the checksum of those ahead of it.
+fn checksum_holds(line: &[u8]) -> bool
+    ensures { λ r. ⌜ r ≡ checksumHolds (now (line .entry)) ⌝ }
+{
+    let mut sum: u64 = 0;
+    let mut column: u32 = 0;
+    while column < 68 {
+        column += 1;
+        sum += weight(field::byte(line, column));
+    }
+    field::byte(line, 69) as u64 == 48 + sum % 10
+}
+
+pub(crate) fn both_checksums_hold(first: &[u8], second: &[u8]) -> bool
+    ensures { λ r. ⌜ r ≡ (checksumHolds (now (first .entry)) && checksumHolds (now (second .entry))) ⌝ }
+{
+    checksum_holds(first) && checksum_holds(second)
+}
