@@ -19,11 +19,11 @@ use Rattle.two_line.specs.declared.TwoLineReading.the-variants.{Refused}
 use Rattle.two_line.specs.Fields.{valueOf, firstBad}
 use Rattle.two_line.specs.Layout.{satelliteNumber, motion}
 use Rattle.two_line.specs.Lines.{begins, checksumHolds}
-use Rattle.two_line.specs.Reading.{takenWith, taken, judged, reading}
+use Rattle.two_line.specs.Reading.{takenWith, taken, judged, twoLineReading}
 
 module _ (first second : List ℕ) (axis : ℕ) (node-rate perigee-rate : ℤ) where
   abbrev answer : TwoLineReading
-  answer = reading first second axis node-rate perigee-rate
+  answer = twoLineReading first second axis node-rate perigee-rate
 
   -- ---- the mean motion, as far as 32 bits hold it
 
@@ -54,24 +54,24 @@ module _ (first second : List ℕ) (axis : ℕ) (node-rate perigee-rate : ℤ) w
   -- ---- each refusal, where those before it are not given
 
   pub lines-refused : (begins 49 first && begins 50 second) ≡ false → Refused refusal.Lines 0 ≡ answer
-  unfolding reading
+  unfolding twoLineReading
   lines-refused b = rw b
 
   module _ (b : (begins 49 first && begins 50 second) ≡ true) where
     pub checksum-refused : (checksumHolds first && checksumHolds second) ≡ false → Refused refusal.Checksum 0 ≡ answer
-    unfolding reading
+    unfolding twoLineReading
     checksum-refused s = rw (b, s)
 
     module _ (s : (checksumHolds first && checksumHolds second) ≡ true) where
       pub field-refused : eqb (firstBad first second) 0 ≡ false → Refused refusal.Field (firstBad first second) ≡ answer
-      unfolding reading
+      unfolding twoLineReading
       field-refused f = rw (b, s, f)
 
       module _ (f : eqb (firstBad first second) 0 ≡ true) where
         pub numbers-refused : eqb (valueOf first satelliteNumber) (valueOf second satelliteNumber) ≡ false → Refused refusal.SatelliteNumbers 0 ≡ answer
-        unfolding reading
+        unfolding twoLineReading
         numbers-refused n = rw (b, s, f, n)
 
         pub elements-judged : eqb (valueOf first satelliteNumber) (valueOf second satelliteNumber) ≡ true → answered (min (valueOf second motion) (2 ^ 32 - 1)) ≡ answer
-        unfolding reading taken
+        unfolding twoLineReading taken
         elements-judged n = rw (b, s, f, n) (motion-held (valueOf second motion))

@@ -1,25 +1,29 @@
 -- The layout of two-line elements: document 01, "Two-line elements". Columns count from 1. Assumes nothing.
 use Prim.Native.Nat.{ℕ}
-use mathlib.Core.Bool.{Bool, true, false}
+use mathlib.Core.Bool.{true, false}
 use mathlib.Core.List.{List, [], _∷_}
 use Rattle.two_line.specs.declared.field.Form.{Form}
 use Rattle.two_line.specs.declared.field.Form.the-variants.{Number, Year, Day, HalfDerivative, Angle, Eccentricity, MeanMotion}
 use Rattle.two_line.specs.declared.field.Layout.{Layout}
 
--- ---- the columns of each form of field, from the left
-
-abbrev pub columns : Bool → Bool → ℕ → Bool → ℕ → Layout
-columns sign blanks ahead point behind = record { sign = sign; blanks = blanks; ahead = ahead; point = point; behind = behind }
+-- ---- the columns of each form of field, from the left: a sign or none; those ahead of the point, in which leading blanks may stand for zeros; the point,
+-- where it is written; the digits behind it. Below, "_" is a digit or a leading blank, and "9" a digit.
 
 abbrev pub layoutOf : Form → Layout
---                                sign  blanks ahead point behind
-layoutOf Number = columns false true 5 false 0
-layoutOf Year = columns false false 2 false 0
-layoutOf Day = columns false false 3 true 8
-layoutOf HalfDerivative = columns true false 0 true 8
-layoutOf Angle = columns false true 3 true 4
-layoutOf Eccentricity = columns false false 0 false 7
-layoutOf MeanMotion = columns false true 2 true 8
+-- _____
+layoutOf Number = record { sign = false; ahead = 5; blanks = true; point = false; behind = 0 }
+-- 99
+layoutOf Year = record { sign = false; ahead = 2; blanks = false; point = false; behind = 0 }
+-- 999.99999999
+layoutOf Day = record { sign = false; ahead = 3; blanks = false; point = true; behind = 8 }
+-- +.99999999, the sign a blank, a plus or a minus
+layoutOf HalfDerivative = record { sign = true; ahead = 0; blanks = false; point = true; behind = 8 }
+-- ___.9999
+layoutOf Angle = record { sign = false; ahead = 3; blanks = true; point = true; behind = 4 }
+-- 9999999, the point implied ahead of them
+layoutOf Eccentricity = record { sign = false; ahead = 0; blanks = false; point = false; behind = 7 }
+-- __.99999999
+layoutOf MeanMotion = record { sign = false; ahead = 2; blanks = true; point = true; behind = 8 }
 
 -- ---- the fields of each line
 

@@ -83,8 +83,8 @@ abbrev pub judged : Verdict → Elements → TwoLineReading
 judged verdict.Passed el = Taken el
 judged (verdict.Refused refusal) el = Refused refusal 0
 
-unfoldable pub reading : List ℕ → List ℕ → ℕ → ℤ → ℤ → TwoLineReading
-reading first second axis node-rate perigee-rate =
+unfoldable pub twoLineReading : List ℕ → List ℕ → ℕ → ℤ → ℤ → TwoLineReading
+twoLineReading first second axis node-rate perigee-rate =
     -- 17: "1" and "2" first
     cond (not (begins 49 first && begins 50 second)) (Refused refusal.Lines 0)
     -- 18

@@ -16,7 +16,7 @@ ghost use Rattle.trig.specs.Angle.{angleOf};
 ghost use Rattle.two_line.specs.declared.field.Form.the-variants.{Angle};
 ghost use Rattle.two_line.specs.Fields.{valueOf, badFrom};
 ghost use Rattle.two_line.specs.Layout.{firstLine, secondLine, motion};
-ghost use Rattle.two_line.specs.Reading.{derivativeOf, takenWith, reading};
+ghost use Rattle.two_line.specs.Reading.{derivativeOf, takenWith, twoLineReading};
 
 pub enum TwoLineReading {
     Taken(Elements),
@@ -131,7 +131,7 @@ pub fn read(
     node_rate: i32,
     perigee_rate: i32,
 ) -> TwoLineReading
-    ensures { λ r. ⌜ r ≡ reading (now (first .entry)) (now (second .entry)) «semi_major_axis» «node_rate» «perigee_rate» ⌝ }
+    ensures { λ r. ⌜ r ≡ twoLineReading (now (first .entry)) (now (second .entry)) «semi_major_axis» «node_rate» «perigee_rate» ⌝ }
 {
     if !line::both_begin(first, second) {
         return TwoLineReading::Refused(Refusal::Lines, 0);

@@ -22,6 +22,9 @@ use Rattle.orbit.specs.declared.Placement.the-variants as placement
 use Rattle.elements_file.specs.Reading.{parsed}
 use Rattle.elements_file.specs.declared.Parsed.{Parsed}
 use Rattle.elements_file.specs.declared.Parsed.the-variants as parsed
+use Rattle.two_line.specs.Reading.{twoLineReading}
+use Rattle.two_line.specs.declared.TwoLineReading.{TwoLineReading}
+use Rattle.two_line.specs.declared.TwoLineReading.the-variants as two-line
 use Rattle.shade.specs.Codes.{shadeCode}
 use Rattle.eclipse.specs.Shade.{shadeAnswer}
 use Rattle.eclipse.specs.declared.ShadeAnswer.{ShadeAnswer}
@@ -101,6 +104,14 @@ elementsOutcome (parsed.Whole el) = given (elementsBytes el)
 
 unfoldable pub elementsCall : List ℕ → List ℕ → Call
 elementsCall text buffer = callOf (eqb (length buffer) 52) (elementsOutcome (parsed text)) buffer
+
+-- ---- yurdelmiz_two_line
+abbrev pub twoLineOutcome : TwoLineReading → Outcome
+twoLineOutcome (two-line.Refused refusal place) = refused (statusAt (numberOf refusal) place)
+twoLineOutcome (two-line.Taken el) = given (elementsBytes el)
+
+unfoldable pub twoLineCall : List ℕ → List ℕ → ℕ → ℤ → ℤ → List ℕ → Call
+twoLineCall first second axis node-rate perigee-rate buffer = callOf (eqb (length buffer) 52) (twoLineOutcome (twoLineReading first second axis node-rate perigee-rate)) buffer
 
 -- ---- yurdelmiz_label
 abbrev pub labelOutcome : Labelling → List ℕ → Outcome

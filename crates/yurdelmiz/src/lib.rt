@@ -2,7 +2,7 @@
 ghost use mathlib.Core.Path.{_≡_};
 ghost use Rattle.trig.specs.Contract.{CosineAt};
 ghost use Rattle.trig.specs.ExactSine.{SineAt};
-ghost use Rattle.yurdelmiz.specs.Calls.{keplerCall, sunCall, positionCall, shadeCall, elementsCall, labelCall, addCall, readCall, darkTestCall, scaleCall, salvageCall, openCall, packetCall, closeCall};
+ghost use Rattle.yurdelmiz.specs.Calls.{keplerCall, sunCall, positionCall, shadeCall, elementsCall, twoLineCall, labelCall, addCall, readCall, darkTestCall, scaleCall, salvageCall, openCall, packetCall, closeCall};
 use eclipse::ShadeAnswer;
 use elements_file::Parsed;
 use kepler::Solution;
@@ -16,6 +16,7 @@ use salvage::Salvage;
 use scale::Scaling;
 use sun::Direction;
 use sun::SunAnswer;
+use two_line::TwoLineReading;
 
 // The status of a buffer whose length is not the header's.
 const BAD_BUFFER: u32 = 255;
@@ -139,6 +140,30 @@ pub extern "C" fn yurdelmiz_elements(text: &[u8], answer: &mut [u8]) -> u64
             statuses::status_at(number, statuses::fault_place(line, element))
         }
         Parsed::Whole(elements) => {
+            buffers::write_elements(answer, 0, elements);
+            0
+        }
+    }
+}
+
+#[no_mangle]
+pub extern "C" fn yurdelmiz_two_line(
+    first: &[u8],
+    second: &[u8],
+    semi_major_axis: u32,
+    node_rate: i32,
+    perigee_rate: i32,
+    answer: &mut [u8],
+) -> u64
+    ensures { λ r. ⌜ record { status = r; answer = now (answer .exit) } ≡ twoLineCall (now (first .entry)) (now (second .entry)) «semi_major_axis» «node_rate» «perigee_rate» (now (answer .entry)) ⌝ }
+{
+    if answer.len() != 52 {
+        return BAD_BUFFER as u64;
+    }
+    let reading = two_line::read(first, second, semi_major_axis, node_rate, perigee_rate);
+    match reading {
+        TwoLineReading::Refused(refusal, place) => statuses::status_at(refusal.number(), place),
+        TwoLineReading::Taken(elements) => {
             buffers::write_elements(answer, 0, elements);
             0
         }

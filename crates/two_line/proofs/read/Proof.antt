@@ -14,7 +14,7 @@ use Rattle.two_line.specs.declared.TwoLineReading.the-variants.{Refused}
 use Rattle.two_line.specs.Fields.{badFrom, firstBad}
 use Rattle.two_line.specs.Layout.{firstLine}
 use Rattle.two_line.specs.Lines.{begins, checksumHolds}
-use Rattle.two_line.specs.Reading.{takenWith, judged, reading}
+use Rattle.two_line.specs.Reading.{takenWith, judged, twoLineReading}
 use Rattle.two_line.proofs.Readings.{lines-refused, checksum-refused, field-refused, numbers-refused, elements-judged}
 use Rattle.two_line.proofs.read.Statement.{statement}
 use Rattle.two_line.proofs.read.Tie as tie
@@ -30,7 +30,7 @@ place-is : (c : tie.After-bad-in-first) → let a = c .before .before .before .b
 unfolding firstBad
 place-is c = c .bad-in-first .ensures ∙ ap (badFrom 0 (now (c .before .before .before .before .before .before .before .before .args .first)) firstLine) (c .before .bad-in-second .ensures)
 
-judged-is : (c : tie.After-taken-with) → let a = c .before .before .before .before .before .before .before .before .before .before .before .before .before .before .args in judged (checked (c .taken-with .result)) (c .taken-with .result) ≡ reading (now (a .first)) (now (a .second)) (a .semi-major-axis) (a .node-rate) (a .perigee-rate)
+judged-is : (c : tie.After-taken-with) → let a = c .before .before .before .before .before .before .before .before .before .before .before .before .before .before .args in judged (checked (c .taken-with .result)) (c .taken-with .result) ≡ twoLineReading (now (a .first)) (now (a .second)) (a .semi-major-axis) (a .node-rate) (a .perigee-rate)
 judged-is c =
     let v = c .before .before .before in
     let f = v .before .before .before in
