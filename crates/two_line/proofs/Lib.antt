@@ -4,3 +4,6 @@ pub mod Values
 pub mod Checksums
 pub mod FirstBad
 pub mod Readings
+pub mod Calendars
+pub mod Published
+pub mod Example

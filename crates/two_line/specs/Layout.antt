@@ -1,7 +1,8 @@
 -- The layout of two-line elements: document 01, "Two-line elements". Columns count from 1. Assumes nothing.
-use Prim.Native.Nat.{ℕ}
+use Prim.Native.Nat.{ℕ, _+_, _-_}
 use mathlib.Core.Bool.{true, false}
 use mathlib.Core.List.{List, [], _∷_}
+use Rattle.two_line.specs.Decimals.{width}
 use Rattle.two_line.specs.declared.field.Form.{Form}
 use Rattle.two_line.specs.declared.field.Form.the-variants.{Number, Year, Day, HalfDerivative, Angle, Eccentricity, MeanMotion}
 use Rattle.two_line.specs.declared.field.Layout.{Layout}
@@ -76,3 +77,13 @@ revolution = at 64 Number
 
 abbrev pub secondLine : List Field
 secondLine = satelliteNumber ∷ inclination ∷ node ∷ eccentricity ∷ perigee ∷ anomaly ∷ motion ∷ revolution ∷ []
+
+-- ---- the columns that follow from it
+
+-- the last column of a field
+abbrev pub lastColumn : Field → ℕ
+lastColumn f = let l = layoutOf (f .form) in f .column + width (l .sign) + l .ahead + width (l .point) + l .behind - 1
+
+-- the column of its point, where one is written
+abbrev pub pointColumn : Field → ℕ
+pointColumn f = let l = layoutOf (f .form) in f .column + width (l .sign) + l .ahead

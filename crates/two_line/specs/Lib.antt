@@ -4,4 +4,5 @@ pub mod Calendar
 pub mod Fields
 pub mod Lines
 pub mod Reading
+pub mod Example
 pub mod Contract
