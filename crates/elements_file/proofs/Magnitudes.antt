@@ -4,13 +4,12 @@ use mathlib.Core.Bool.{Bool, true, false, cond}
 use Prim.Native.Nat.{ℕ, zero, suc, _-_, _^_, _≤_, _<_, zero-le}
 use native.Mathlib.Nat.{le-trans, le-of-suc-le-suc}
 use native.Mathlib.Omega.{arith}
-use borrow.Author.Tests.{eqb-true, leb-true}
-use lib.Dec.{eqb, leb, lit≤}
+use borrow.Author.Tests.{eqb-true}
+use lib.Dec.{eqb, lit≤}
 use lib.IntN.{pos, negsuc, negℤ}
 use lib.Signed.{mag}
 use mir.Syntax.{Width, w32, w64}
 use mir.Val.{hbits, SFits}
-use Rattle.integer.proofs.Tests.{and-true}
 use Rattle.elements_file.specs.Numbers.{largest, isRate, isEpoch, signedOf}
 use Rattle.elements_file.specs.declared.number.Number.{Number}
 

@@ -1,7 +1,6 @@
 -- The columns are those of the published layout. Assumes nothing.
 use mathlib.Core.Path.{_≡_, refl}
-use mathlib.Core.List.{List, [], _∷_, map}
-use Prim.Native.Nat.{ℕ}
+use mathlib.Core.List.{[], _∷_, map}
 use Rattle.two_line.specs.Layout.{Field, day, halfDerivative, inclination, node, perigee, anomaly, motion, firstLine, secondLine, lastColumn, pointColumn}
 
 -- line 1: 3 to 7, 19 to 20, 21 to 32, 34 to 43

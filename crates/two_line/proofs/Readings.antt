@@ -1,5 +1,5 @@
 -- The refusals of two lines in their order, and a mean motion past 32 bits. Assumes nothing.
-use mathlib.Core.Path.{_≡_, refl, sym, _∙_}
+use mathlib.Core.Path.{_≡_, refl}
 use mathlib.Core.Bool.{true, false, _&&_}
 use mathlib.Core.List.{List}
 use Prim.Native.Nat.{ℕ, min, _-_, _^_, _≤_, _<_}

@@ -12,10 +12,11 @@ use refusal::Refusal;
 ghost use mathlib.Core.Path.{_≡_};
 ghost use mathlib.Core.Bool.{cond};
 ghost use Prim.Native.Nat.{_-_, _^_, _≤_, min};
+ghost use lib.Dec.{eqb};
 ghost use Rattle.trig.specs.Angle.{angleOf};
 ghost use Rattle.two_line.specs.declared.field.Form.the-variants.{Angle};
 ghost use Rattle.two_line.specs.Fields.{valueOf, badFrom};
-ghost use Rattle.two_line.specs.Layout.{firstLine, secondLine, motion};
+ghost use Rattle.two_line.specs.Layout.{satelliteNumber, firstLine, secondLine, motion};
 ghost use Rattle.two_line.specs.Reading.{derivativeOf, takenWith, twoLineReading};
 
 pub enum TwoLineReading {
@@ -60,6 +61,12 @@ fn bad_in_second(second: &[u8]) -> u32
     let node = place_or(field::field(second, 18, Form::Angle), 69 + 18, eccentricity);
     let inclination = place_or(field::field(second, 9, Form::Angle), 69 + 9, node);
     place_or(field::field(second, 3, Form::Number), 69 + 3, inclination)
+}
+
+fn same_satellite(first: &[u8], second: &[u8]) -> bool
+    ensures { λ r. ⌜ r ≡ eqb (valueOf (now (first .entry)) satelliteNumber) (valueOf (now (second .entry)) satelliteNumber) ⌝ }
+{
+    field::value(first, 3, Form::Number) == field::value(second, 3, Form::Number)
 }
 
 // A minus makes it negative.
@@ -140,10 +147,11 @@ pub fn read(
         return TwoLineReading::Refused(Refusal::Checksum, 0);
     }
     let place = bad_in_first(first, bad_in_second(second));
+    let same = same_satellite(first, second);
     if place != 0 {
         return TwoLineReading::Refused(Refusal::Field, place);
     }
-    if field::value(first, 3, Form::Number) != field::value(second, 3, Form::Number) {
+    if !same {
         return TwoLineReading::Refused(Refusal::SatelliteNumbers, 0);
     }
     let elements = taken_with(

@@ -1,11 +1,9 @@
 -- `two_line::read` meets its contract. Assumes nothing.
 use mathlib.Core.Path.{_≡_, sym, ap, _∙_}
 use mathlib.Core.Bool.{true, _&&_}
-use Prim.Native.Nat.{min, _-_, _^_}
 use borrow.Author.Needs.{needs}
 use borrow.Author.Tests.{not-true, not-false, eq-eqb, ne-eqb}
 use denote.Ref.{now}
-use lib.Dec.{eqb}
 use mir.Facts.{toZ-ofZ}
 use Rattle.refusal.specs.declared.Refusal.the-variants as refusal
 use Rattle.elements.specs.Elements.{checked}
@@ -14,7 +12,7 @@ use Rattle.two_line.specs.declared.TwoLineReading.the-variants.{Refused}
 use Rattle.two_line.specs.Fields.{badFrom, firstBad}
 use Rattle.two_line.specs.Layout.{firstLine}
 use Rattle.two_line.specs.Lines.{begins, checksumHolds}
-use Rattle.two_line.specs.Reading.{takenWith, judged, twoLineReading}
+use Rattle.two_line.specs.Reading.{judged, twoLineReading}
 use Rattle.two_line.proofs.Readings.{lines-refused, checksum-refused, field-refused, numbers-refused, elements-judged}
 use Rattle.two_line.proofs.read.Statement.{statement}
 use Rattle.two_line.proofs.read.Tie as tie
@@ -30,15 +28,15 @@ place-is : (c : tie.After-bad-in-first) → let a = c .before .before .before .b
 unfolding firstBad
 place-is c = c .bad-in-first .ensures ∙ ap (badFrom 0 (now (c .before .before .before .before .before .before .before .before .args .first)) firstLine) (c .before .bad-in-second .ensures)
 
-judged-is : (c : tie.After-taken-with) → let a = c .before .before .before .before .before .before .before .before .before .before .before .before .before .before .args in judged (checked (c .taken-with .result)) (c .taken-with .result) ≡ twoLineReading (now (a .first)) (now (a .second)) (a .semi-major-axis) (a .node-rate) (a .perigee-rate)
+judged-is : (c : tie.After-taken-with) → let a = c .before .before .before .before .before .before .before .before .before .before .before .before .before .args in judged (checked (c .taken-with .result)) (c .taken-with .result) ≡ twoLineReading (now (a .first)) (now (a .second)) (a .semi-major-axis) (a .node-rate) (a .perigee-rate)
 judged-is c =
-    let v = c .before .before .before in
-    let f = v .before .before .before in
+    let v = c .before .before .before .before in
+    let f = v .before in
     let k = f .before .before .before in
     let s = k .before .before .before .before .before in
     let a = s .args in
     let e = rw (toZ-ofZ (s .fits .node-rate), toZ-ofZ (s .fits .perigee-rate), c .before .mean-motion .ensures) at (c .taken-with .ensures) in
-    ap (λ (el : Elements). judged (checked el) el) e ∙ elements-judged (now (a .first)) (now (a .second)) (a .semi-major-axis) (a .node-rate) (a .perigee-rate) (begun k) (summed f) (rw (← place-is f) (eq-eqb _ 0 (v .before .before .if3 .left))) (rw (← v .before .value .ensures, ← v .value2 .ensures) (eq-eqb _ _ (c .before .before .if4 .left)))
+    ap (λ (el : Elements). judged (checked el) el) e ∙ elements-judged (now (a .first)) (now (a .second)) (a .semi-major-axis) (a .node-rate) (a .perigee-rate) (begun k) (summed f) (rw (← place-is f) (eq-eqb _ 0 (c .before .before .before .if3 .left))) (sym (v .same-satellite .ensures) ∙ not-false _ (c .before .before .if4 .left))
 
 returns : tie.Need-returns
 returns c =
@@ -54,18 +52,18 @@ returns-2 c =
 
 returns-3 : tie.Need-returns-3
 returns-3 c =
-    let f = c .before in
+    let f = c .before .before in
     let k = f .before .before .before in
     let a = k .before .before .before .before .before .args in
     ap (Refused refusal.Field) (place-is f) ∙ field-refused (now (a .first)) (now (a .second)) (a .semi-major-axis) (a .node-rate) (a .perigee-rate) (begun k) (summed f) (rw (← place-is f) (ne-eqb _ 0 (c .if3 .taken)))
 
 returns-4 : tie.Need-returns-4
 returns-4 c =
-    let v = c .before in
-    let f = v .before .before .before in
+    let v = c .before .before in
+    let f = v .before in
     let k = f .before .before .before in
     let a = k .before .before .before .before .before .args in
-    numbers-refused (now (a .first)) (now (a .second)) (a .semi-major-axis) (a .node-rate) (a .perigee-rate) (begun k) (summed f) (rw (← place-is f) (eq-eqb _ 0 (v .before .before .if3 .left))) (rw (← v .before .value .ensures, ← v .value2 .ensures) (ne-eqb _ _ (c .if4 .taken)))
+    numbers-refused (now (a .first)) (now (a .second)) (a .semi-major-axis) (a .node-rate) (a .perigee-rate) (begun k) (summed f) (rw (← place-is f) (eq-eqb _ 0 (c .before .if3 .left))) (sym (v .same-satellite .ensures) ∙ not-true _ (c .if4 .taken))
 
 returns-5 : tie.Need-returns-5
 returns-5 c =
@@ -87,9 +85,8 @@ read-spec =
     returns-2
     (λ c κs. search needs)
     (λ c κs. search needs)
+    (λ c κs. search needs)
     returns-3
-    (λ c κs. search needs)
-    (λ c κs. search needs)
     returns-4
     (λ c κs. search needs)
     (λ c κs. search needs)

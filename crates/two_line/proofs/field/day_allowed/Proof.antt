@@ -1,6 +1,5 @@
 -- `two_line::field::day_allowed` meets its contract. Assumes nothing.
 use borrow.Author.Needs.{needs}
-use mathlib.Core.Path.{ap, _∙_}
 use borrow.Author.Tests.{lt-leb, le-leb}
 use Rattle.two_line.proofs.field.day_allowed.Statement.{statement}
 use Rattle.two_line.proofs.field.day_allowed.Tie as tie

@@ -1,10 +1,9 @@
 -- `two_line::line::checksum_holds` meets its contract. Assumes nothing.
-use Prim.Native.Nat.{ℕ, suc, _+_, _-_, _≤_}
-use mathlib.Core.Path.{_≡_, refl, ap, _∙_}
+use Prim.Native.Nat.{suc, _+_, _-_, _≤_}
+use mathlib.Core.Path.{_≡_, refl}
 use native.Mathlib.Omega.{arith}
 use borrow.Author.Needs.{needs}
 use denote.Ref.{now}
-use Rattle.two_line.specs.Decimals.{byteOf}
 use Rattle.two_line.specs.Lines.{weight, weightTo, checksumHolds}
 use Rattle.two_line.proofs.Checksums.{weight-small, weight-to-small}
 use Rattle.two_line.proofs.line.checksum_holds.Statement.{statement}
