@@ -106,11 +106,20 @@ impl Command {
             (None, None) => Ok(OsString::new()),
             (None, Some(_)) => Err(self.mistake(format!("{} takes no value", flag.name))),
             (Some(_), Some(value)) => Ok(value),
-            (Some(what), None) => words
-                .next()
-                .cloned()
-                .ok_or_else(|| self.mistake(format!("{} is given without its {what}", flag.name))),
+            (Some(what), None) => {
+                words.next().filter(|word| !self.is_option(word)).cloned().ok_or_else(|| {
+                    self.mistake(format!("{} is given without its {what}", flag.name))
+                })
+            }
         }
+    }
+
+    /// Whether a word is an option of the command, and so no value of another; one that only begins with a minus
+    /// may be a value.
+    fn is_option(&self, word: &OsStr) -> bool {
+        let text = word.to_string_lossy();
+        let name = text.split_once('=').map_or(&*text, |(name, _)| name);
+        self.flags.iter().any(|flag| flag.name == name)
     }
 
     fn counted(&self, arguments: Arguments) -> Result<Arguments, Failure> {
@@ -187,8 +196,12 @@ mod tests {
     const MANY: Command = Command {
         name: "many",
         operands: &["ONE", "OTHER..."],
-        flags: &[Flag { name: "--flag", value: None }],
-        help: "usage: many [--flag] ONE OTHER...\n\nmore",
+        flags: &[
+            Flag { name: "--flag", value: None },
+            Flag { name: "--size", value: Some("N") },
+            Flag { name: "--name", value: Some("NAME") },
+        ],
+        help: "usage: many [--flag] [--size N] [--name NAME] ONE OTHER...\n\nmore",
         run: |_| Ok(()),
     };
 
@@ -213,6 +226,37 @@ mod tests {
         ] {
             let failure = format!("{:?}", parsed(words).unwrap_err());
             assert!(failure.contains(&format!("\"many: {told}\\nusage: many ")), "{failure}");
+        }
+    }
+
+    fn values(words: &[&str]) -> Result<[Option<OsString>; 2], Failure> {
+        let words: Vec<OsString> = words.iter().chain(&["a", "b"]).map(OsString::from).collect();
+        let arguments = MANY.parse(&words)?.expect("no help is asked for");
+        Ok(["--size", "--name"].map(|flag| arguments.value(flag).map(OsString::from)))
+    }
+
+    #[test]
+    fn values_of_options() {
+        for (words, size, name) in [
+            (&["--size", "-5"][..], Some("-5"), None),
+            (&["--size=-5"], Some("-5"), None),
+            (&["--size=", "--name", "--"], Some(""), Some("--")),
+            (&["--name", "--nonsense", "--size", "1=2"], Some("1=2"), Some("--nonsense")),
+            (&["--name=--size", "--size", "-"], Some("-"), Some("--size")),
+            (&["--flag"], None, None),
+        ] {
+            let told = [size, name].map(|value| value.map(OsString::from));
+            assert_eq!(values(words).unwrap(), told, "{words:?}");
+        }
+        for (words, told) in [
+            (&["--size", "--name", "x"][..], "--size is given without its N"),
+            (&["--size", "--name=x"], "--size is given without its N"),
+            (&["--name", "--flag"], "--name is given without its NAME"),
+            (&["--size", "1", "--size", "2"], "--size is given twice"),
+            (&["-5", "--size"], "many has no option '-5'"),
+        ] {
+            let failure = format!("{:?}", values(words).unwrap_err());
+            assert!(failure.contains(told), "{failure}");
         }
     }
 

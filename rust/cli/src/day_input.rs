@@ -6,6 +6,7 @@ use crate::elements_input::{ElementsFile, ElementsInput};
 use crate::failure::Failure;
 use crate::stdout;
 use crate::telemetry_input::{Telemetry, TelemetryFile};
+use crate::two_line::AxisAndRates;
 
 /// A day to be labelled.
 pub struct Day<'a> {
@@ -17,10 +18,11 @@ impl<'a> Day<'a> {
     /// Reads both files before it tells what is malformed in either.
     pub fn read(
         elements_path: &'a Path,
+        beside: Option<AxisAndRates>,
         telemetry_path: &'a Path,
         csv: bool,
     ) -> Result<Day<'a>, Failure> {
-        let elements_file = ElementsFile::read(elements_path)?;
+        let elements_file = ElementsFile::read(elements_path, beside)?;
         let telemetry_file = TelemetryFile::read(telemetry_path, csv)?;
         let elements = elements_file.take()?;
         let telemetry = match telemetry_file.records() {

@@ -24,34 +24,22 @@ pub fn number(element: Element, elements: &Elements) -> i64 {
 }
 
 /// What an element's number stands for.
-pub fn value(element: Element, elements: &Elements) -> String {
+pub fn value(element: Element, number: i64) -> String {
     match element {
-        Element::Eccentricity => fixed(elements.eccentricity.into(), 7),
-        Element::SemiMajorAxis => format!("{} metres", elements.semi_major_axis),
-        Element::Inclination => angle(elements.inclination),
-        Element::Node => angle(elements.node),
-        Element::ArgumentOfPerigee => angle(elements.argument_of_perigee),
-        Element::MeanAnomaly => angle(elements.mean_anomaly),
-        Element::MeanMotion => {
-            format!("{} revolutions a day", fixed(elements.mean_motion.into(), 8))
-        }
-        Element::NodeRate => rate(elements.node_rate),
-        Element::PerigeeRate => rate(elements.perigee_rate),
-        Element::EpochRevolution => elements.epoch_revolution.to_string(),
-        Element::Epoch => epoch(elements.epoch),
+        Element::Eccentricity => fixed(number, 7),
+        Element::SemiMajorAxis => format!("{number} metres"),
+        Element::Inclination
+        | Element::Node
+        | Element::ArgumentOfPerigee
+        | Element::MeanAnomaly => format!("{} degrees", degrees(number as u32)),
+        Element::MeanMotion => format!("{} revolutions a day", fixed(number, 8)),
+        Element::NodeRate | Element::PerigeeRate => format!("{} degrees a day", fixed(number, 4)),
+        Element::EpochRevolution => number.to_string(),
+        Element::Epoch => epoch(number),
         Element::HalfMeanMotionDerivative => {
-            let half = fixed(elements.half_mean_motion_derivative.into(), 8);
-            format!("{half} revolutions a day squared")
+            format!("{} revolutions a day squared", fixed(number, 8))
         }
     }
-}
-
-fn angle(angle: u32) -> String {
-    format!("{} degrees", degrees(angle))
-}
-
-fn rate(rate: i32) -> String {
-    format!("{} degrees a day", fixed(rate.into(), 4))
 }
 
 /// A date within the range of times, for which the Sun is known, and else seconds.
@@ -65,7 +53,7 @@ fn epoch(time: i64) -> String {
 /// One line an element, in the order of the file.
 pub fn lines(elements: &Elements) -> String {
     let lines = Element::ALL.map(|element| {
-        let value = value(element, elements);
+        let value = value(element, number(element, elements));
         format!("{} {value}", element.name())
     });
     lines.join("\n")

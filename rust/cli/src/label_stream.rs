@@ -9,6 +9,7 @@ use crate::day_input;
 use crate::elements_input::{ElementsFile, ElementsInput};
 use crate::failure::Failure;
 use crate::telemetry_input::Telemetry;
+use crate::two_line::AxisAndRates;
 use crate::{label_output, refused_day, standard_input, stdout};
 
 /// The most bytes of a packet: more than a day has, so that telemetry that is too long and comes at once is
@@ -16,8 +17,12 @@ use crate::{label_output, refused_day, standard_input, stdout};
 const PACKET: usize = 65_536;
 
 /// Labels standard input. The elements are told and opened before anything of it is read.
-pub fn run(elements_path: &Path, labels_path: &Path) -> Result<(), Failure> {
-    let elements_file = ElementsFile::read(elements_path)?;
+pub fn run(
+    elements_path: &Path,
+    beside: Option<AxisAndRates>,
+    labels_path: &Path,
+) -> Result<(), Failure> {
+    let elements_file = ElementsFile::read(elements_path, beside)?;
     let mut input = standard_input::open()?;
     let (file, counts) = label(elements_file.take()?, &mut input)?;
     label_output::write(labels_path, &file, "", counts)
@@ -83,7 +88,7 @@ mod tests {
     fn elements() -> ElementsInput<'static> {
         let text = ELEMENTS.as_bytes().to_vec();
         let elements = parse_elements(&text).unwrap();
-        ElementsInput { path: Path::new("elements"), text, elements }
+        ElementsInput::of_text(Path::new("elements"), text, elements)
     }
 
     /// What each read gives, and then the end.

@@ -13,6 +13,7 @@ mod day_input;
 mod decimal;
 mod elements_input;
 mod elements_report;
+mod elements_text;
 mod failure;
 mod help;
 mod input;
@@ -39,6 +40,8 @@ mod tally;
 mod telemetry_csv;
 mod telemetry_input;
 mod third_law;
+mod two_line;
+mod written;
 
 use std::env;
 use std::ffi::OsString;

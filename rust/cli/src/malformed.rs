@@ -6,7 +6,7 @@ use yurdelmiz::{Element, Fault, Malformed};
 
 use crate::failure::Failure;
 use crate::input::looks_like_text;
-use crate::quote;
+use crate::{quote, two_line};
 
 /// A line, counted from 1, without its LF; none past the end of the file.
 pub fn line_of(text: &[u8], number: usize) -> Option<&[u8]> {
@@ -80,11 +80,20 @@ pub fn failure(path: &Path, text: &[u8], malformed: Malformed) -> Failure {
     Failure::refused(format!("{path}, line {line}: {sentence}; {found}{hint}"))
 }
 
+/// What to say of a file that may be the telemetry.
+pub fn telemetry(path: &Path, text: &[u8]) -> Option<&'static str> {
+    let csv = text.starts_with(b"time,") || path.extension().is_some_and(|it| it == "csv");
+    let telemetry =
+        !text.is_empty() && byte_order_mark(text).is_none() && (csv || !looks_like_text(text));
+    telemetry.then_some("is it the telemetry? The order is ELEMENTS TELEMETRY LABELS")
+}
+
 fn hint(path: &Path, text: &[u8], malformed: Malformed) -> Option<String> {
-    let telemetry = text.starts_with(b"time,") || path.extension().is_some_and(|it| it == "csv");
-    if !text.is_empty() && byte_order_mark(text).is_none() && (telemetry || !looks_like_text(text))
-    {
-        return Some("is it the telemetry? The order is ELEMENTS TELEMETRY LABELS".to_owned());
+    if two_line::looks_like_two_lines(text) {
+        return Some(format!("it looks like two-line elements, which need {}", two_line::OPTIONS));
+    }
+    if let Some(hint) = telemetry(path, text) {
+        return Some(hint.to_owned());
     }
     if (malformed.fault, malformed.element)
         == (Fault::Missing, Some(Element::HalfMeanMotionDerivative))
@@ -136,7 +145,7 @@ impl Decimal {
 }
 
 /// The whole number that a decimal stands for, in the unit that people use for the element.
-fn whole(element: Element, value: &str) -> Option<String> {
+pub fn whole(element: Element, value: &str) -> Option<String> {
     let decimal = Decimal::read(value)?;
     let shown = value.trim();
     Some(match element {

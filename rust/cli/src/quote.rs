@@ -3,8 +3,8 @@
 use std::os::unix::ffi::OsStrExt;
 use std::path::Path;
 
-/// The longest piece that a message repeats, in characters.
-const LONGEST: usize = 60;
+/// The longest piece that a message repeats, in characters: a line of two-line elements with what ends it.
+const LONGEST: usize = 72;
 
 /// A file's name, as it was given.
 pub fn path(path: &Path) -> String {
@@ -73,7 +73,7 @@ mod tests {
         assert_eq!(bytes(b"node\t1\r"), r#""node\t1\r""#);
         assert_eq!(bytes(b"\x1b[2J\0\xff"), r#""\u{1b}[2J\u{0}\xff""#);
         assert_eq!(bytes("25.6°".as_bytes()), "\"25.6°\"");
-        assert_eq!(bytes(&[b'x'; 1000]).len(), 65);
+        assert_eq!(bytes(&[b'x'; 1000]).len(), 77);
         assert_eq!(word("a\nb"), r"'a\nb'");
     }
 

@@ -1,7 +1,7 @@
 //! Why a day was not labelled or added: which file, which line or record, what it holds, and what to do. The
 //! refusal is the library's.
 
-use yurdelmiz::{Elements, LabelFile, Refusal, Refused, Sample};
+use yurdelmiz::{Element, Elements, LabelFile, Refusal, Refused, Sample};
 
 use crate::date;
 use crate::day_input::Day;
@@ -135,14 +135,15 @@ impl Day<'_> {
         told
     }
 
-    /// Seconds from 1970 in place of seconds from 1989-12-31, in the record or in the epoch.
+    /// Seconds from 1970 in place of seconds from 1989-12-31, in the record or in the epoch, where that is written
+    /// in seconds.
     fn unix_hint(&self, time: i64) -> Option<String> {
         let reached = |set: &Elements, time: i64| yurdelmiz::position(set, time).is_ok();
         let elements = self.elements.elements;
         if let Some(moved) = time.checked_sub(date::UNIX).filter(|it| reached(&elements, *it)) {
             return Some(unix("its time", moved));
         }
-        let moved = elements.epoch.checked_sub(date::UNIX)?;
+        let moved = self.elements.written.number(Element::Epoch)?.checked_sub(date::UNIX)?;
         let set = Elements { epoch: moved, ..elements };
         reached(&set, time).then(|| unix("the epoch", moved))
     }

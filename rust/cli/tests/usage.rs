@@ -91,6 +91,80 @@ fn mistakes() {
     }
 }
 
+/// The axis and the rates are given together, as whole numbers.
+#[test]
+fn axis_and_rates() {
+    let need = "two-line elements need --axis, --node-rate and --perigee-rate";
+    for command in ["label", "add"] {
+        let given = |options: &[&str], told: &str| {
+            let words = [&[command][..], options, &["elements", "telemetry", "out"]].concat();
+            mistake(&words, told);
+        };
+        for (options, missing) in [
+            (&["--axis", "1"][..], "--node-rate and --perigee-rate are missing"),
+            (&["--node-rate=-1"], "--axis and --perigee-rate are missing"),
+            (&["--perigee-rate", "-1", "--axis=1"], "--node-rate is missing"),
+            (&["--node-rate", "x", "--perigee-rate", "1.5"], "--axis is missing"),
+        ] {
+            given(options, &format!("{command}: {missing}: {need}"));
+        }
+        let rate = "in units of 10^-4 degree a day";
+        for (axis, node, perigee, told) in [
+            (
+                "26100.0",
+                "-1724",
+                "2834",
+                "--axis '26100.0' has a decimal point: write a whole number, in metres; 26100.0 metres are written \
+                 26100, 26100.0 km 26100000"
+                    .to_owned(),
+            ),
+            (
+                "26100000",
+                "-0.1724",
+                "0.2834",
+                format!(
+                    "--node-rate '-0.1724' has a decimal point: write a whole number, {rate}; -0.1724 degrees a day \
+                     are written -1724"
+                ),
+            ),
+            (
+                "26100000",
+                "-1724",
+                "+2834",
+                format!(
+                    "--perigee-rate '+2834' is not a whole number, {rate}: digits, with a minus ahead of them or not"
+                ),
+            ),
+            (
+                "-26100000",
+                "-1724",
+                "2834",
+                "--axis '-26100000' is not a whole number, in metres: digits alone".to_owned(),
+            ),
+            ("4294967296", "0", "0", "--axis '4294967296' is too large, in metres".to_owned()),
+            ("0", "2147483648", "0", format!("--node-rate '2147483648' is too large, {rate}")),
+            ("0", "0", "-2147483649", format!("--perigee-rate '-2147483649' is too large, {rate}")),
+        ] {
+            given(&["--axis", axis, "--node-rate", node, "--perigee-rate", perigee], &told);
+            let joined = [("axis", axis), ("node-rate", node), ("perigee-rate", perigee)]
+                .map(|(name, value)| format!("--{name}={value}"));
+            given(&joined.each_ref().map(|word| &**word), &told);
+        }
+        given(&["--axis", "--node-rate", "-1724"], "--axis is given without its METRES");
+        given(&["--axis", "1", "--axis", "2"], "--axis is given twice");
+        mistake(&[command, "a", "b", "c", "--node-rate"], "--node-rate is given without its N");
+    }
+    mistake(
+        &["label", "--axes", "1", "a", "b", "c"],
+        "label has no option '--axes': did you mean --axis?",
+    );
+    // Ahead of what is asked of the files.
+    mistake(
+        &["label", "--axis", "1", "none", "none", "out.csv"],
+        &format!("label: --node-rate and --perigee-rate are missing: {need}"),
+    );
+}
+
 /// Arguments are looked at before any file is.
 #[test]
 fn before_a_file_is_read() {
