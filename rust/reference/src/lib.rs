@@ -22,5 +22,6 @@ pub mod sun;
 pub mod tail;
 pub mod telemetry;
 pub mod trailer;
+pub mod two_line;
 
 pub use refusal::{Refusal, Refused};

@@ -36,6 +36,15 @@ pub enum Refusal {
     /// Half the mean motion's derivative beyond ±1,000,000, or the mean motion less 60 times its size
     /// below 20,000,000.
     MeanMotionDerivative = 16,
+    /// A line of two-line elements that has not 69 bytes, or does not begin with its number.
+    Lines = 17,
+    /// A line of two-line elements that does not end with its checksum.
+    Checksum = 18,
+    /// A field of two-line elements that is not written as the layout has it, an angle of 360 degrees or more, or a
+    /// day outside its year.
+    Field = 19,
+    /// Satellite numbers that differ between the two lines.
+    SatelliteNumbers = 20,
     /// A day that is closed, or a state that is none of a day.
     Day = 24,
 }
@@ -48,11 +57,12 @@ impl Refusal {
 }
 
 /// A refusal from labelling, packets, reading, adding or scale figures, with the number of the record or label over
-/// the whole day or file.
+/// the whole day or file; or from two-line elements, with the first column of the field, from 1, on the second line
+/// from 70.
 #[derive(Clone, Copy, Debug, PartialEq, Eq)]
 pub struct Refused {
     pub refusal: Refusal,
-    /// 0 where no record or label is at fault.
+    /// 0 where no record, label or field is at fault.
     pub place: u32,
 }
 

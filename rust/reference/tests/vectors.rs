@@ -9,6 +9,7 @@ use reference::scale;
 use reference::sun::{sun, Direction};
 use reference::tail::dark_test;
 use reference::trailer::Counts;
+use reference::two_line::two_line;
 use reference::{kepler, Refusal};
 use vectors::{Day, Elements, Figures, Labeller, Refused};
 
@@ -16,6 +17,23 @@ struct Reference;
 
 fn elements(elements: Elements) -> reference::orbit::Elements {
     reference::orbit::Elements {
+        eccentricity: elements.eccentricity,
+        semi_major_axis: elements.semi_major_axis,
+        inclination: elements.inclination,
+        node: elements.node,
+        argument_of_perigee: elements.argument_of_perigee,
+        mean_anomaly: elements.mean_anomaly,
+        mean_motion: elements.mean_motion,
+        node_rate: elements.node_rate,
+        perigee_rate: elements.perigee_rate,
+        epoch_revolution: elements.epoch_revolution,
+        epoch: elements.epoch,
+        half_mean_motion_derivative: elements.half_mean_motion_derivative,
+    }
+}
+
+fn vectors_elements(elements: reference::orbit::Elements) -> Elements {
+    Elements {
         eccentricity: elements.eccentricity,
         semi_major_axis: elements.semi_major_axis,
         inclination: elements.inclination,
@@ -153,6 +171,17 @@ impl Labeller for Reference {
         let [least, greatest] = [least, greatest].map(|watts| watts.map(f32::to_bits));
         *figures = Figures { files, labels, dark, valid, least, greatest, sines, squares };
         added
+    }
+
+    fn two_line(
+        &self,
+        [first, second]: [&[u8]; 2],
+        semi_major_axis: u32,
+        node_rate: i32,
+        perigee_rate: i32,
+    ) -> Result<Elements, Refused> {
+        let set = two_line(first, second, semi_major_axis, node_rate, perigee_rate);
+        set.map(vectors_elements).map_err(refused)
     }
 }
 

@@ -4,11 +4,12 @@ use std::fmt::Display;
 use std::str::{FromStr, SplitWhitespace};
 
 /// The vectors, with the number of their lines; the head of a file says what a line holds.
-const VECTORS: [(&str, usize); 5] = [
+const VECTORS: [(&str, usize); 6] = [
     (include_str!("../../../vectors/K01.txt"), 666),
     (include_str!("../../../vectors/K04.txt"), 1_760),
     (include_str!("../../../vectors/K05.txt"), 410),
     (include_str!("../../../vectors/K06.txt"), 400),
+    (include_str!("../../../vectors/K09.txt"), 600),
     (include_str!("../../../vectors/K12.txt"), 152),
 ];
 
@@ -91,6 +92,14 @@ pub trait Labeller {
     fn close(&self, day: &mut Day, output: &mut [u8]) -> Result<(), Refused>;
     /// Adds the file in the first `length` bytes of `buffer`.
     fn scale(&self, figures: &mut Figures, buffer: &[u8], length: usize) -> Result<(), Refused>;
+    /// The elements of two lines, with what comes beside them.
+    fn two_line(
+        &self,
+        lines: [&[u8]; 2],
+        semi_major_axis: u32,
+        node_rate: i32,
+        perigee_rate: i32,
+    ) -> Result<Elements, Refused>;
 }
 
 /// The words of a line's inputs, taken one after another.
@@ -218,6 +227,24 @@ fn figures_text(figures: &Figures) -> Vec<String> {
     [&counts[..], &extremes, &[sines.to_string(), squares.to_string()]].concat()
 }
 
+/// Elements as a line has them.
+fn elements_text(elements: &Elements) -> [i64; 12] {
+    [
+        elements.eccentricity.into(),
+        elements.semi_major_axis.into(),
+        elements.inclination.into(),
+        elements.node.into(),
+        elements.argument_of_perigee.into(),
+        elements.mean_anomaly.into(),
+        elements.mean_motion.into(),
+        elements.node_rate.into(),
+        elements.perigee_rate.into(),
+        elements.epoch_revolution.into(),
+        elements.epoch,
+        elements.half_mean_motion_derivative.into(),
+    ]
+}
+
 /// What a call gives and leaves in an output of `room` bytes; a refusal leaves it as it was.
 fn lend<T, E>(
     room: usize,
@@ -322,6 +349,13 @@ fn answer(labeller: &impl Labeller, subject: &str, mut inputs: Inputs) -> String
                 assert_eq!(figures, before, "a refused file adds nothing");
             }
             outcome.map_or_else(refused_at, |()| accepted(figures_text(&figures)))
+        }
+        "tle" => {
+            let [first, second] = [inputs.bytes(), inputs.bytes()];
+            let (axis, node_rate) = (inputs.number(), inputs.number());
+            labeller
+                .two_line([&first, &second], axis, node_rate, inputs.number())
+                .map_or_else(refused_at, |elements| accepted(elements_text(&elements)))
         }
         _ => panic!("no subject {subject}"),
     }

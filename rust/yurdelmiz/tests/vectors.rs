@@ -22,6 +22,23 @@ fn elements(elements: Elements) -> yurdelmiz::Elements {
     }
 }
 
+fn vectors_elements(elements: yurdelmiz::Elements) -> Elements {
+    Elements {
+        eccentricity: elements.eccentricity,
+        semi_major_axis: elements.semi_major_axis,
+        inclination: elements.inclination,
+        node: elements.node,
+        argument_of_perigee: elements.argument_of_perigee,
+        mean_anomaly: elements.mean_anomaly,
+        mean_motion: elements.mean_motion,
+        node_rate: elements.node_rate,
+        perigee_rate: elements.perigee_rate,
+        epoch_revolution: elements.epoch_revolution,
+        epoch: elements.epoch,
+        half_mean_motion_derivative: elements.half_mean_motion_derivative,
+    }
+}
+
 fn refused(refused: yurdelmiz::Refused) -> Refused {
     (refused.refusal.number(), refused.place)
 }
@@ -174,6 +191,17 @@ impl Labeller for Library {
             assert_eq!(added.to_bytes(), bytes);
         }
         told
+    }
+
+    fn two_line(
+        &self,
+        lines: [&[u8]; 2],
+        semi_major_axis: u32,
+        node_rate: i32,
+        perigee_rate: i32,
+    ) -> Result<Elements, Refused> {
+        let set = yurdelmiz::parse_two_line(lines, semi_major_axis, node_rate, perigee_rate);
+        set.map(vectors_elements).map_err(refused)
     }
 }
 
