@@ -65,7 +65,7 @@ pub fn eccentricity(random: &mut Random) -> u32 {
     accepted_eccentricity(random)
 }
 
-fn accepted_eccentricity(random: &mut Random) -> u32 {
+pub fn accepted_eccentricity(random: &mut Random) -> u32 {
     match random.below(16) {
         0 | 1 => 0,
         2 => random.between(0, 1_000) as u32,
@@ -120,7 +120,7 @@ pub fn kepler(random: &mut Random) -> (u32, u32) {
 }
 
 /// The least semi-major axis that the perigee allows.
-fn least_axis(eccentricity: u32) -> i64 {
+pub fn least_axis(eccentricity: u32) -> i64 {
     let above_perigee = 10_000_000 - i64::from(eccentricity);
     let least = (64_780_000_000_000 + above_perigee - 1) / above_perigee;
     least.max(6_600_000)

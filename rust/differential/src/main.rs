@@ -4,7 +4,8 @@
 //!
 //! Each cheap subject gets `count` comparisons (1,000,000 where none is given), scale figures a fourth of it, elements
 //! files, tails, salvage and packets a tenth, labelling, reading and adding a hundredth in days and files, leaks a
-//! hundredth in pairs of days. The same seed gives the same inputs.
+//! hundredth in pairs of days, two-line elements a thousandth in sets that are changed everywhere. The same seed gives
+//! the same inputs.
 
 mod additions;
 mod alike_days;
@@ -25,6 +26,8 @@ mod salvages;
 mod scales;
 mod shades;
 mod tails;
+mod two_line_sets;
+mod two_lines;
 
 use std::process::ExitCode;
 use std::time::Instant;
@@ -62,7 +65,7 @@ fn main() -> ExitCode {
         return ExitCode::from(2);
     };
     println!("seed {seed}");
-    let subjects: [(&str, u64, Subject); 17] = [
+    let subjects: [(&str, u64, Subject); 18] = [
         ("sine", count, numbers::sine),
         ("kepler", count, numbers::kepler),
         ("position", count, numbers::position),
@@ -80,6 +83,7 @@ fn main() -> ExitCode {
         ("packets", count / 10, packets::packets),
         ("scale", count / 4, scales::scale),
         ("leaks", count / 100, leaks::leaks),
+        ("two lines", count / 1_000, two_lines::two_lines),
     ];
     let mut differences = 0;
     for (number, (name, rounds, compare)) in subjects.into_iter().enumerate() {

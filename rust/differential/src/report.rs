@@ -73,16 +73,24 @@ impl Report {
         self.answers.entry(kind).or_default();
     }
 
-    /// Counts a difference for each kind that was due and not given, where enough was compared.
+    /// Says the same of a refusal.
+    pub fn due_refusal(&mut self, number: u32) {
+        self.refusals.entry(number).or_default();
+    }
+
+    /// Counts a difference for each kind and refusal that was due and not given, where enough was compared.
     pub fn end(&mut self) {
         let comparisons = self.comparisons;
         if comparisons < ENOUGH {
             return;
         }
-        let missing = self.answers.iter().filter(|(_, times)| **times == 0).map(|(kind, _)| *kind);
-        for kind in missing.collect::<Vec<_>>() {
+        let answers = self.answers.iter().map(|(kind, times)| (kind.to_string(), *times));
+        let refusals =
+            self.refusals.iter().map(|(number, times)| (format!("refusal {number}"), *times));
+        let missing: Vec<_> = answers.chain(refusals).filter(|(_, times)| *times == 0).collect();
+        for (what, times) in missing {
             let input = format_args!("{comparisons} comparisons");
-            self.difference(&input, kind, &0, &format_args!("1 or more"));
+            self.difference(&input, &what, &times, &format_args!("1 or more"));
         }
     }
 
