@@ -5,8 +5,9 @@
 //! a turn, sines and direction components 2^-30, times are seconds from 1990 Jan 0.0.
 //!
 //! ```
-//! use yurdelmiz::{add_to_vec, dark_test, label_to_vec, parse_elements, salvage_to_vec};
-//! use yurdelmiz::{Day, Figures, LabelFile, Reading, Salvaged, Sample, Shade, Side};
+//! use yurdelmiz::{add_to_vec, dark_test, label_to_vec, salvage_to_vec};
+//! use yurdelmiz::{parse_elements, parse_two_line};
+//! use yurdelmiz::{Day, Elements, Figures, LabelFile, Reading, Salvaged, Sample, Shade, Side};
 //!
 //! let elements = parse_elements(
 //!     b"eccentricity 6100000
@@ -23,6 +24,16 @@
 //! half_mean_motion_derivative 0
 //! ",
 //! )?;
+//!
+//! // The same satellite in two lines, with the axis and the drift rates beside them. Their epoch is 0.000288 s past
+//! // a full second; moved back to it, the mean anomaly goes back by 29 units.
+//! let lines = [
+//!     &b"1 14129U 83058B   85224.07291667  .00000000  00000-0  00000-0 0    14"[..],
+//!     &b"2 14129  25.6000 121.2000 6100000  40.1000 129.3000  2.05890000 16275"[..],
+//! ];
+//! let moved = Elements { mean_anomaly: elements.mean_anomaly - 29, ..elements };
+//! assert_eq!(parse_two_line(lines, 26_100_000, -1_724, 2_834)?, moved);
+//!
 //! let sample = Sample { time: elements.epoch + 86_400, volts: 14.0, amperes: 0.5 };
 //! let mut bytes = label_to_vec(&elements, &sample.to_bytes())?;
 //!
