@@ -288,14 +288,17 @@ fn several(random: &mut Random, report: &mut Report, set: &Set) {
     compare(random, report, &set);
 }
 
-/// Lines of any lengths, in each other's place, or one of them twice.
+/// Lines of any lengths, the other's checksum right or not, in each other's place, or one of them twice.
 fn lengths(random: &mut Random, report: &mut Report, set: &Set) {
-    for lines in [&[0][..], &[1], &[0, 1]] {
+    for line in [0, 1] {
         let mut set = set.clone();
-        for line in lines {
-            let byte = random.pick(b"0 ");
-            set.lines[*line].resize(random.index(141), byte);
-        }
+        let byte = random.pick(b"0 ");
+        set.lines[line].resize(random.index(141), byte);
+        compare(random, report, &set);
+        let checksum = &mut set.lines[1 - line][COLUMNS - 1];
+        *checksum = another(random, *checksum);
+        compare(random, report, &set);
+        set.lines[1 - line].resize(random.index(141), byte);
         compare(random, report, &set);
     }
     let [first, second] = &set.lines;

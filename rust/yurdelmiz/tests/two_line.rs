@@ -250,30 +250,92 @@ fn refusals_without_a_place() {
     assert_eq!(beside((6_730_960, -200_000, 200_000)), Ok(()));
 }
 
+/// The set with the mean anomaly and argument of perigee, mean motion and revolution, half a second past a full one.
+fn half_a_second(
+    [anomaly, perigee]: [&str; 2],
+    motion: &str,
+    revolution: &str,
+) -> Result<Elements, (u32, u32)> {
+    let [first, mut second] = changed(1, 24, ".00015625");
+    second[34..51].copy_from_slice(format!("{perigee} {anomaly}").as_bytes());
+    second[52..68].copy_from_slice(format!("{motion}{revolution}").as_bytes());
+    mend(&mut second);
+    read([&first, &second], BESIDE)
+}
+
 /// 10.546875 revolutions a day are 2^18 units in half a second, and 0.0219 and 0.022 degrees 261,277 and 262,470.
 #[test]
 fn the_node_within_the_cut_part() {
-    for (anomaly, revolution, expected) in [
-        ("   .0219", "00060", 59),
-        ("   .0220", "00060", 60),
-        ("   .0219", "    1", 0),
-        ("   .0219", "     ", 0),
+    let motion = "10.54687500";
+    for (angles, motion, revolution, expected) in [
+        (["   .0219", "000.0000"], motion, "00060", 59),
+        (["   .0220", "000.0000"], motion, "00060", 60),
+        (["000.0000", "   .0219"], motion, "00060", 59),
+        (["   .0219", "000.0000"], motion, "    1", 0),
+        (["   .0219", "000.0000"], motion, "     ", 0),
+        // The mean anomaly is below the amount, and the sum is not.
+        (["   .0001", " 90.0000"], motion, "00060", 60),
+        // The sum is over a turn.
+        (["359.9999", "   .0220"], motion, "00060", 59),
+        (["359.9999", "   .0221"], motion, "00060", 60),
+        // The amount is the sum, and then one more.
+        (["   .0220", "000.0000"], "10.55999101", "00060", 60),
+        (["   .0220", "000.0000"], "10.56003124", "00060", 59),
     ] {
-        let [mut first, mut second] = changed(1, 24, ".00015625");
-        second[34..51].copy_from_slice(format!("000.0000 {anomaly}").as_bytes());
-        second[52..68].copy_from_slice(format!("10.54687500{revolution}").as_bytes());
-        mend(&mut first);
-        mend(&mut second);
-        let elements = read([&first, &second], BESIDE).unwrap();
-        assert_eq!(elements.epoch_revolution, expected, "{anomaly} {revolution}");
-        let moved: u32 = if anomaly.ends_with('9') { 261_277 } else { 262_470 };
-        assert_eq!(elements.mean_anomaly, moved.wrapping_sub(1 << 18));
-        // At the full second that the epoch was moved back to, and at the one behind it.
-        let at = |time| position(&elements, time).unwrap().revolution;
-        let numbers = [at(elements.epoch), at(elements.epoch + 1)];
-        let next = i32::from(moved < 1 << 18);
-        assert_eq!(numbers, [expected as i32, expected as i32 + next], "{anomaly} {revolution}");
+        let elements = half_a_second(angles, motion, revolution).unwrap();
+        assert_eq!(elements.epoch_revolution, expected, "{angles:?} {motion} {revolution}");
     }
+}
+
+/// The number at the full second that the epoch was moved back to, and at the next, which is behind the node.
+#[test]
+fn the_node_behind_the_epoch() {
+    let elements = half_a_second(["   .0219", "000.0000"], "10.54687500", "00060").unwrap();
+    assert_eq!(elements.mean_anomaly, 261_277_u32.wrapping_sub(1 << 18));
+    let at = |time| position(&elements, time).unwrap().revolution;
+    assert_eq!([at(elements.epoch), at(elements.epoch + 1)], [59, 60]);
+}
+
+/// A blank or a plus is the sign of a number above 0, and neither counts in the checksum.
+#[test]
+fn signs() {
+    let derivative =
+        |text: &str| with(1, 34, text).map(|elements| elements.half_mean_motion_derivative);
+    assert_eq!(derivative(" .00002182"), Ok(2_182));
+    assert_eq!(derivative("+.00002182"), Ok(2_182));
+    assert_eq!(derivative("-.00002182"), Ok(-2_182));
+    for sign in ["0", "1", ".", "*"] {
+        assert_eq!(derivative(&format!("{sign}.00002182")), Err((19, 34)));
+    }
+}
+
+/// All of these at once, put right one by one.
+#[test]
+fn order_of_the_refusals() {
+    let told = |lines: &[Vec<u8>; 2], rate| {
+        read(lines.each_ref().map(|line| &line[..]), (6_730_960, rate, 0)).map(|_| ())
+    };
+    let mut lines = STATION.map(|line| line.as_bytes().to_vec());
+    lines[0][33..43].copy_from_slice(b" .02000000");
+    lines[1][2..7].copy_from_slice(b"25545");
+    lines[1][63..68].copy_from_slice(b"5635x");
+    let [first, second] = lines.clone();
+    assert_eq!(told(&[first, second[..68].to_vec()], 200_001), Err((17, 0)));
+    assert_eq!(told(&lines, 200_001), Err((18, 0)));
+    mend(&mut lines[0]);
+    assert_eq!(told(&lines, 200_001), Err((18, 0)));
+    mend(&mut lines[1]);
+    assert_eq!(told(&lines, 200_001), Err((19, 133)));
+    lines[1][63..68].copy_from_slice(b"56353");
+    mend(&mut lines[1]);
+    assert_eq!(told(&lines, 200_001), Err((20, 0)));
+    lines[1][2..7].copy_from_slice(b"25544");
+    mend(&mut lines[1]);
+    assert_eq!(told(&lines, 200_001), Err((6, 0)));
+    assert_eq!(told(&lines, 200_000), Err((16, 0)));
+    lines[0][33..43].copy_from_slice(b" .01000000");
+    mend(&mut lines[0]);
+    assert_eq!(told(&lines, 200_000), Ok(()));
 }
 
 #[test]
