@@ -375,6 +375,10 @@ fn the_revolution_goes_back() {
     for (motion, after) in [("10.55999101", 60), ("10.56003123", 60), ("10.56003124", 59)] {
         assert_eq!(revolution("   .0220", "000.0000", "00060", [half, (2, 53, motion)]), after);
     }
+    // Each angle is cut by itself: these make 261,276 units, and 0.0219 degrees 261,277, which is the amount.
+    let motion = (2, 53, "10.51199288");
+    assert_eq!(revolution("359.9999", "   .0220", "00060", [half, motion]), 59);
+    assert_eq!(revolution("   .0219", "000.0000", "00060", [half, motion]), 60);
     // A full second cuts nothing, and no sum is below that.
     let full = [(1, 24, ".50000000"), (2, 53, "10.54687500")];
     assert_eq!(revolution("000.0000", "000.0000", "00060", full), 60);

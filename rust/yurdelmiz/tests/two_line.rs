@@ -281,6 +281,9 @@ fn the_node_within_the_cut_part() {
         // The amount is the sum, and then one more.
         (["   .0220", "000.0000"], "10.55999101", "00060", 60),
         (["   .0220", "000.0000"], "10.56003124", "00060", 59),
+        // Each angle is cut by itself: 261,276 units, and then 261,277, which is the amount.
+        (["359.9999", "   .0220"], "10.51199288", "00060", 59),
+        (["   .0219", "000.0000"], "10.51199288", "00060", 60),
     ] {
         let elements = half_a_second(angles, motion, revolution).unwrap();
         assert_eq!(elements.epoch_revolution, expected, "{angles:?} {motion} {revolution}");
