@@ -2,7 +2,6 @@ pub mod Digits
 pub mod Layouts
 pub mod Values
 pub mod Checksums
-pub mod FirstBad
 pub mod Readings
 pub mod Calendars
 pub mod Published

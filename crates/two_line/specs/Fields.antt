@@ -37,10 +37,14 @@ fieldOf line f =
 abbrev pub valueOf : List ℕ → Field → ℕ
 valueOf line f = fieldOf line f .value
 
--- the place of the first bad field of a line, its first column behind those of the lines ahead; where there is none, the one that follows
+-- the place of a field that is bad, its first column behind those of the lines ahead, or else the one that follows
+unfoldable pub placeOr : ℕ → List ℕ → Field → ℕ → ℕ
+placeOr ahead line f later = cond (fieldOf line f .sound) later (ahead + f .column)
+
+-- of the first bad field of some
 abbrev pub badFrom : ℕ → List ℕ → List Field → ℕ → ℕ
 badFrom ahead line [] later = later
-badFrom ahead line (f ∷ fs) later = cond (fieldOf line f .sound) (badFrom ahead line fs later) (ahead + f .column)
+badFrom ahead line (f ∷ fs) later = placeOr ahead line f (badFrom ahead line fs later)
 
 -- line 1 from the left, then line 2 behind 69 columns; 0 where no field is bad
 unfoldable pub firstBad : List ℕ → List ℕ → ℕ

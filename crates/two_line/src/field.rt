@@ -7,7 +7,7 @@ ghost use lib.Dec.{eqb};
 ghost use Rattle.two_line.specs.Contract.{Room, InLine};
 ghost use Rattle.two_line.specs.Layout.{layoutOf};
 ghost use Rattle.two_line.specs.Decimals.{byteOf, bad, digitOrBlank, leadsOn, further, isSign, width, decimalOf};
-ghost use Rattle.two_line.specs.Fields.{yearOf, dayAllowed, allowed, fieldOf, valueOf};
+ghost use Rattle.two_line.specs.Fields.{yearOf, dayAllowed, allowed, fieldOf, valueOf, placeOr};
 
 // The forms that fields have.
 pub enum Form {
@@ -257,4 +257,16 @@ pub(crate) fn value(line: &[u8], column: u32, form: Form) -> u64
     ensures { λ r. ⌜ r ≡ valueOf (now (line .entry)) (record { column = column; form = form }) ⌝ }
 {
     field(line, column, form).value
+}
+
+// The place of a field that is bad, its first column behind those of the lines ahead, or else the one that
+// follows.
+pub(crate) fn place_or(ahead: u32, line: &[u8], column: u32, form: Form, later: u32) -> u32
+    requires { ⌜ (ahead ≤ 69) × (1 ≤ column) × (column ≤ 69) ⌝ }
+    ensures { λ r. ⌜ r ≡ placeOr ahead (now (line .entry)) (record { column = column; form = form }) later ⌝ }
+{
+    if field(line, column, form).sound {
+        return later;
+    }
+    ahead + column
 }

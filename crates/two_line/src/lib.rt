@@ -6,11 +6,9 @@ mod line;
 
 use elements::Elements;
 use elements::Verdict;
-use field::Decimal;
 use field::Form;
 use refusal::Refusal;
 ghost use mathlib.Core.Path.{_≡_};
-ghost use mathlib.Core.Bool.{cond};
 ghost use Prim.Native.Nat.{_-_, _^_, _≤_, min};
 ghost use lib.Dec.{eqb};
 ghost use Rattle.trig.specs.Angle.{angleOf};
@@ -26,41 +24,26 @@ pub enum TwoLineReading {
     Refused(Refusal, u32),
 }
 
-// The place of a field that is not sound, or else the one that follows.
-fn place_or(field: Decimal, place: u32, later: u32) -> u32
-    ensures { λ r. ⌜ r ≡ cond (field .sound) later place ⌝ }
-{
-    if field.sound { later } else { place }
-}
-
 fn bad_in_first(first: &[u8], later: u32) -> u32
     ensures { λ r. ⌜ r ≡ badFrom 0 (now (first .entry)) firstLine later ⌝ }
 {
-    let derivative = place_or(field::field(first, 34, Form::HalfDerivative), 34, later);
-    let day = place_or(field::field(first, 21, Form::Day), 21, derivative);
-    let year = place_or(field::field(first, 19, Form::Year), 19, day);
-    place_or(field::field(first, 3, Form::Number), 3, year)
+    let derivative = field::place_or(0, first, 34, Form::HalfDerivative, later);
+    let day = field::place_or(0, first, 21, Form::Day, derivative);
+    let year = field::place_or(0, first, 19, Form::Year, day);
+    field::place_or(0, first, 3, Form::Number, year)
 }
 
 fn bad_in_second(second: &[u8]) -> u32
     ensures { λ r. ⌜ r ≡ badFrom 69 (now (second .entry)) secondLine 0 ⌝ }
 {
-    let revolution = place_or(field::field(second, 64, Form::Number), 69 + 64, 0);
-    let motion = place_or(
-        field::field(second, 53, Form::MeanMotion),
-        69 + 53,
-        revolution,
-    );
-    let anomaly = place_or(field::field(second, 44, Form::Angle), 69 + 44, motion);
-    let perigee = place_or(field::field(second, 35, Form::Angle), 69 + 35, anomaly);
-    let eccentricity = place_or(
-        field::field(second, 27, Form::Eccentricity),
-        69 + 27,
-        perigee,
-    );
-    let node = place_or(field::field(second, 18, Form::Angle), 69 + 18, eccentricity);
-    let inclination = place_or(field::field(second, 9, Form::Angle), 69 + 9, node);
-    place_or(field::field(second, 3, Form::Number), 69 + 3, inclination)
+    let revolution = field::place_or(69, second, 64, Form::Number, 0);
+    let motion = field::place_or(69, second, 53, Form::MeanMotion, revolution);
+    let anomaly = field::place_or(69, second, 44, Form::Angle, motion);
+    let perigee = field::place_or(69, second, 35, Form::Angle, anomaly);
+    let eccentricity = field::place_or(69, second, 27, Form::Eccentricity, perigee);
+    let node = field::place_or(69, second, 18, Form::Angle, eccentricity);
+    let inclination = field::place_or(69, second, 9, Form::Angle, node);
+    field::place_or(69, second, 3, Form::Number, inclination)
 }
 
 fn same_satellite(first: &[u8], second: &[u8]) -> bool
