@@ -6,7 +6,7 @@ use native.Mathlib.Omega.{arith}
 use lib.Dec.{eqb}
 use Rattle.digit.specs.Digit.{digitValue}
 use Rattle.digit.proofs.Range.{value-small}
-use Rattle.two_line.specs.Decimals.{byteOf}
+use Rattle.two_line_fields.specs.Decimals.{byteOf}
 use Rattle.two_line.specs.Lines.{weight, weightTo}
 
 pub weight-small : (byte : ℕ) → weight byte ≤ 9

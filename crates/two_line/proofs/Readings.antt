@@ -16,8 +16,8 @@ use Rattle.elements.specs.declared.Verdict.the-variants as verdict
 use Rattle.elements.proofs.Fast.{checkedTo4, too-fast}
 use Rattle.two_line.specs.declared.TwoLineReading.{TwoLineReading}
 use Rattle.two_line.specs.declared.TwoLineReading.the-variants.{Refused}
-use Rattle.two_line.specs.Fields.{valueOf, firstBad}
-use Rattle.two_line.specs.Layout.{satelliteNumber, motion}
+use Rattle.two_line_fields.specs.Fields.{valueOf, firstBad}
+use Rattle.two_line_fields.specs.Layout.{satelliteNumber, motion}
 use Rattle.two_line.specs.Lines.{begins, checksumHolds}
 use Rattle.two_line.specs.Reading.{takenWith, taken, judged, twoLineReading}
 

@@ -5,7 +5,7 @@ use mathlib.Core.List.{List}
 use lib.Dec.{eqb}
 use lib.ListN.{length}
 use Rattle.digit.specs.Digit.{digitValue}
-use Rattle.two_line.specs.Decimals.{byteOf}
+use Rattle.two_line_fields.specs.Decimals.{byteOf}
 
 -- 69 bytes, and the line's number first
 abbrev pub begins : ℕ → List ℕ → Bool

@@ -10,10 +10,10 @@ use Rattle.elements.specs.Elements.{checked}
 use Rattle.elements.specs.declared.Elements.{Elements}
 use Rattle.elements.specs.declared.Verdict.{Verdict}
 use Rattle.elements.specs.declared.Verdict.the-variants as verdict
-use Rattle.two_line.specs.Calendar.{daysBefore}
-use Rattle.two_line.specs.Decimals.{byteOf}
-use Rattle.two_line.specs.Fields.{yearOf, valueOf, firstBad}
-use Rattle.two_line.specs.Layout.{satelliteNumber, day, halfDerivative, inclination, node, eccentricity, perigee, anomaly, motion, revolution}
+use Rattle.two_line_fields.specs.Calendar.{daysBefore}
+use Rattle.two_line_fields.specs.Decimals.{byteOf}
+use Rattle.two_line_fields.specs.Fields.{yearOf, valueOf, firstBad}
+use Rattle.two_line_fields.specs.Layout.{satelliteNumber, day, halfDerivative, inclination, node, eccentricity, perigee, anomaly, motion, revolution}
 use Rattle.two_line.specs.Lines.{begins, checksumHolds}
 use Rattle.two_line.specs.declared.TwoLineReading.{TwoLineReading}
 use Rattle.two_line.specs.declared.TwoLineReading.the-variants.{Taken, Refused}

@@ -1,7 +1,5 @@
 // The epoch, moved back to the full second, and the mean anomaly and the revolution with it.
-use crate::calendar;
-use crate::field;
-use crate::field::Form;
+use two_line_fields::Form;
 ghost use mathlib.Core.Path.{_≡_};
 ghost use Prim.Native.Nat.{_^_, _≤_, _<_};
 ghost use Rattle.two_line.specs.Reading.{microseconds, secondsOf, epochOf, amountOf, movedBack, revolutionBack};
@@ -10,15 +8,15 @@ ghost use Rattle.two_line.specs.Reading.{microseconds, secondsOf, epochO
 fn microseconds(first: &[u8]) -> u64
     ensures { λ r. ⌜ r ≡ microseconds (now (first .entry)) ⌝ }
 {
-    field::value(first, 21, Form::Day) % 100_000_000 * 864
+    two_line_fields::value(first, 21, Form::Day) % 100_000_000 * 864
 }
 
 // The full seconds from 1957 Jan 0.0.
 fn seconds(first: &[u8]) -> u64
     ensures { λ r. ⌜ r ≡ secondsOf (now (first .entry)) ⌝ }
 {
-    let before = calendar::days_before(field::year(first));
-    let day = field::value(first, 21, Form::Day) / 100_000_000;
+    let before = two_line_fields::days_before(first);
+    let day = two_line_fields::value(first, 21, Form::Day) / 100_000_000;
     86_400 * (before + day) + microseconds(first) / 1_000_000
 }
 

@@ -1,20 +1,18 @@
 // Two-line elements: document 01, "Two-line elements".
-mod calendar;
 mod epoch;
-mod field;
 mod line;
 
 use elements::Elements;
 use elements::Verdict;
-use field::Form;
 use refusal::Refusal;
+use two_line_fields::Form;
 ghost use mathlib.Core.Path.{_≡_};
 ghost use Prim.Native.Nat.{_-_, _^_, _≤_, min};
 ghost use lib.Dec.{eqb};
 ghost use Rattle.trig.specs.Angle.{angleOf};
-ghost use Rattle.two_line.specs.declared.field.Form.the-variants.{Angle};
-ghost use Rattle.two_line.specs.Fields.{valueOf, badFrom};
-ghost use Rattle.two_line.specs.Layout.{satelliteNumber, firstLine, secondLine, motion};
+ghost use Rattle.two_line_fields.specs.declared.Form.the-variants.{Angle};
+ghost use Rattle.two_line_fields.specs.Fields.{valueOf, badFrom};
+ghost use Rattle.two_line_fields.specs.Layout.{satelliteNumber, firstLine, secondLine, motion};
 ghost use Rattle.two_line.specs.Reading.{derivativeOf, takenWith, twoLineReading};
 
 pub enum TwoLineReading {
@@ -27,37 +25,38 @@ pub enum TwoLineReading {
 fn bad_in_first(first: &[u8], later: u32) -> u32
     ensures { λ r. ⌜ r ≡ badFrom 0 (now (first .entry)) firstLine later ⌝ }
 {
-    let derivative = field::place_or(0, first, 34, Form::HalfDerivative, later);
-    let day = field::place_or(0, first, 21, Form::Day, derivative);
-    let year = field::place_or(0, first, 19, Form::Year, day);
-    field::place_or(0, first, 3, Form::Number, year)
+    let derivative = two_line_fields::place_or(0, first, 34, Form::HalfDerivative, later);
+    let day = two_line_fields::place_or(0, first, 21, Form::Day, derivative);
+    let year = two_line_fields::place_or(0, first, 19, Form::Year, day);
+    two_line_fields::place_or(0, first, 3, Form::Number, year)
 }
 
 fn bad_in_second(second: &[u8]) -> u32
     ensures { λ r. ⌜ r ≡ badFrom 69 (now (second .entry)) secondLine 0 ⌝ }
 {
-    let revolution = field::place_or(69, second, 64, Form::Number, 0);
-    let motion = field::place_or(69, second, 53, Form::MeanMotion, revolution);
-    let anomaly = field::place_or(69, second, 44, Form::Angle, motion);
-    let perigee = field::place_or(69, second, 35, Form::Angle, anomaly);
-    let eccentricity = field::place_or(69, second, 27, Form::Eccentricity, perigee);
-    let node = field::place_or(69, second, 18, Form::Angle, eccentricity);
-    let inclination = field::place_or(69, second, 9, Form::Angle, node);
-    field::place_or(69, second, 3, Form::Number, inclination)
+    let revolution = two_line_fields::place_or(69, second, 64, Form::Number, 0);
+    let motion = two_line_fields::place_or(69, second, 53, Form::MeanMotion, revolution);
+    let anomaly = two_line_fields::place_or(69, second, 44, Form::Angle, motion);
+    let perigee = two_line_fields::place_or(69, second, 35, Form::Angle, anomaly);
+    let eccentricity = two_line_fields::place_or(69, second, 27, Form::Eccentricity, perigee);
+    let node = two_line_fields::place_or(69, second, 18, Form::Angle, eccentricity);
+    let inclination = two_line_fields::place_or(69, second, 9, Form::Angle, node);
+    two_line_fields::place_or(69, second, 3, Form::Number, inclination)
 }
 
 fn same_satellite(first: &[u8], second: &[u8]) -> bool
     ensures { λ r. ⌜ r ≡ eqb (valueOf (now (first .entry)) satelliteNumber) (valueOf (now (second .entry)) satelliteNumber) ⌝ }
 {
-    field::value(first, 3, Form::Number) == field::value(second, 3, Form::Number)
+    two_line_fields::value(first, 3, Form::Number)
+        == two_line_fields::value(second, 3, Form::Number)
 }
 
 // A minus makes it negative.
 fn half_derivative(first: &[u8]) -> i32
     ensures { λ r. ⌜ r ≡ derivativeOf (now (first .entry)) ⌝ }
 {
-    let size = field::value(first, 34, Form::HalfDerivative);
-    if field::byte(first, 34) == b'-' {
+    let size = two_line_fields::value(first, 34, Form::HalfDerivative);
+    if two_line_fields::byte(first, 34) == b'-' {
         return -(size as i32);
     }
     size as i32
@@ -67,7 +66,7 @@ fn half_derivative(first: &[u8]) -> i32
 fn mean_motion(second: &[u8]) -> u32
     ensures { λ r. ⌜ r ≡ min (valueOf (now (second .entry)) motion) (2 ^ 32 - 1) ⌝ }
 {
-    let value = field::value(second, 53, Form::MeanMotion);
+    let value = two_line_fields::value(second, 53, Form::MeanMotion);
     if value < 0x1_0000_0000 {
         return value as u32;
     }
@@ -78,7 +77,7 @@ fn angle(line: &[u8], column: u32) -> u32
     requires { ⌜ (1 ≤ column) × (column ≤ 69) ⌝ }
     ensures { λ r. ⌜ r ≡ angleOf (valueOf (now (line .entry)) (record { column = column; form = Angle })) ⌝ }
 {
-    trig::angle(field::value(line, column, Form::Angle) as u32)
+    trig::angle(two_line_fields::value(line, column, Form::Angle) as u32)
 }
 
 // The elements of two lines, with the mean motion n.
@@ -95,9 +94,9 @@ fn taken_with(
     let perigee = angle(second, 35);
     let anomaly = angle(second, 44);
     let amount = epoch::amount(n, first);
-    let number = field::value(second, 64, Form::Number) as u32;
+    let number = two_line_fields::value(second, 64, Form::Number) as u32;
     Elements {
-        eccentricity: field::value(second, 27, Form::Eccentricity) as u32,
+        eccentricity: two_line_fields::value(second, 27, Form::Eccentricity) as u32,
         semi_major_axis,
         inclination: angle(second, 9),
         node: angle(second, 18),

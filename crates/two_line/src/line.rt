@@ -1,5 +1,4 @@
 // What is asked of each line whole.
-use crate::field;
 ghost use mathlib.Core.Path.{_≡_};
 ghost use mathlib.Core.Bool.{_&&_};
 ghost use Rattle.two_line.specs.Lines.{begins, weight, checksumHolds};
@@ -11,7 +10,7 @@ fn begins(number: u8, line: &[u8]) -> bool
     if line.len() != 69 {
         return false;
     }
-    field::byte(line, 1) == number
+    two_line_fields::byte(line, 1) == number
 }
 
 pub(crate) fn both_begin(first: &[u8], second: &[u8]) -> bool
@@ -37,9 +36,9 @@ fn checksum_holds(line: &[u8]) -> bool
     let mut column: u32 = 0;
     while column < 68 {
         column += 1;
-        sum += weight(field::byte(line, column));
+        sum += weight(two_line_fields::byte(line, column));
     }
-    field::byte(line, 69) as u64 == 48 + sum % 10
+    two_line_fields::byte(line, 69) as u64 == 48 + sum % 10
 }
 
 pub(crate) fn both_checksums_hold(first: &[u8], second: &[u8]) -> bool

@@ -4,7 +4,7 @@ use native.Mathlib.Omega.{arith}
 use borrow.Author.Needs.{needs}
 use denote.Ref.{now}
 use Rattle.trig.specs.Angle.{angleOf}
-use Rattle.two_line.proofs.Values.{angle-small}
+use Rattle.two_line_fields.proofs.Values.{angle-small}
 use Rattle.two_line.proofs.angle.Statement.{statement}
 use Rattle.two_line.proofs.angle.Tie as tie
 

@@ -10,9 +10,9 @@ use mir.Syntax.{w32}
 use mir.Val.{SFits, toZ}
 use mir.Facts.{toZ-pos, toZ-ofZ}
 use Rattle.integer.proofs.Bounds.{within-pos, within-sub, sfits-within}
-use Rattle.two_line.specs.Layout.{halfDerivative}
+use Rattle.two_line_fields.specs.Layout.{halfDerivative}
 use Rattle.two_line.specs.Reading.{derivativeOf}
-use Rattle.two_line.proofs.Values.{value-small}
+use Rattle.two_line_fields.proofs.Values.{value-small}
 use Rattle.two_line.proofs.half_derivative.Statement.{statement}
 use Rattle.two_line.proofs.half_derivative.Tie as tie
 

@@ -9,8 +9,8 @@ use Rattle.refusal.specs.declared.Refusal.the-variants as refusal
 use Rattle.elements.specs.Elements.{checked}
 use Rattle.elements.specs.declared.Elements.{Elements}
 use Rattle.two_line.specs.declared.TwoLineReading.the-variants.{Refused}
-use Rattle.two_line.specs.Fields.{badFrom, firstBad}
-use Rattle.two_line.specs.Layout.{firstLine}
+use Rattle.two_line_fields.specs.Fields.{badFrom, firstBad}
+use Rattle.two_line_fields.specs.Layout.{firstLine}
 use Rattle.two_line.specs.Lines.{begins, checksumHolds}
 use Rattle.two_line.specs.Reading.{judged, twoLineReading}
 use Rattle.two_line.proofs.Readings.{lines-refused, checksum-refused, field-refused, numbers-refused, elements-judged}

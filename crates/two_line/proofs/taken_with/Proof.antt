@@ -4,9 +4,10 @@ use borrow.Author.Needs.{needs}
 use denote.Ref.{now}
 use mir.Syntax.{w32, w64}
 use mir.Facts.{toZ-ofZ}
-use Rattle.two_line.specs.Layout.{eccentricity, revolution}
+use Rattle.two_line_fields.specs.Layout.{eccentricity, revolution}
 use Rattle.two_line.specs.Reading.{takenWith}
-use Rattle.two_line.proofs.Values.{value-small, amount-small}
+use Rattle.two_line_fields.proofs.Values.{value-small}
+use Rattle.two_line.proofs.Epochs.{amount-small}
 use Rattle.two_line.proofs.taken_with.Statement.{statement}
 use Rattle.two_line.proofs.taken_with.Tie as tie
 

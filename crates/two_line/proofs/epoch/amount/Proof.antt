@@ -3,7 +3,7 @@ use Prim.Native.Nat.{_*_, _%_, _^_, _≤_}
 use native.Mathlib.Omega.{arith}
 use borrow.Author.Needs.{needs}
 use Rattle.two_line.specs.Reading.{amountOf}
-use Rattle.two_line.proofs.Values.{turned-small}
+use Rattle.two_line.proofs.Epochs.{turned-small}
 use Rattle.two_line.proofs.epoch.amount.Statement.{statement}
 use Rattle.two_line.proofs.epoch.amount.Tie as tie
 

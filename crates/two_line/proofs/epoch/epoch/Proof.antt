@@ -10,7 +10,7 @@ use mir.Val.{SFits, toZ}
 use mir.Facts.{toZ-pos, toZ-ofZ}
 use Rattle.integer.proofs.Bounds.{within-pos, within-sub, sfits-within}
 use Rattle.two_line.specs.Reading.{epochOf}
-use Rattle.two_line.proofs.Values.{seconds-small}
+use Rattle.two_line.proofs.Epochs.{seconds-small}
 use Rattle.two_line.proofs.epoch.epoch.Statement.{statement}
 use Rattle.two_line.proofs.epoch.epoch.Tie as tie
 

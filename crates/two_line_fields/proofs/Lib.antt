@@ -1,0 +1,5 @@
+pub mod Digits
+pub mod Layouts
+pub mod Values
+pub mod Calendars
+pub mod Published

@@ -1,0 +1,5 @@
+pub mod Layout
+pub mod Decimals
+pub mod Calendar
+pub mod Fields
+pub mod Contract
