@@ -1,4 +1,5 @@
 pub mod Checksums
 pub mod Epochs
 pub mod Readings
+pub mod TakenElements
 pub mod Example

@@ -22,7 +22,15 @@ use Rattle.orbit.specs.declared.Placement.{Placement}
 use Rattle.orbit.specs.declared.Placement.the-variants as placement
 use Rattle.elements.specs.declared.Elements.{Elements}
 use Rattle.orbit.proofs.Placements.{placed-state}
-use Rattle.elements_file.specs.Contract.{InBounds}
+use Rattle.integer.proofs.Bounds.{sfits-within}
+use Rattle.elements.specs.Elements.{checked}
+use Rattle.elements.specs.declared.Verdict.the-variants.{Passed}
+use Rattle.elements.proofs.Accepted.{accepted as elements-passed}
+use Rattle.two_line.specs.Reading.{twoLineReading}
+use Rattle.two_line.specs.declared.TwoLineReading.{TwoLineReading}
+use Rattle.two_line.specs.declared.TwoLineReading.the-variants as two-line
+use Rattle.two_line.proofs.TakenElements.{AnglesHeld, taken-passed, angles-held}
+use Rattle.elements_file.specs.Contract.{Held, InBounds}
 use Rattle.elements_file.specs.Reading.{parsed}
 use Rattle.elements_file.specs.declared.Fault.{Fault}
 use Rattle.elements_file.specs.declared.Fault.the-variants.{Name, Extra, ControlByte, DecimalPoint, NotWhole, TooLarge, Unended, Missing, TooLong}
@@ -55,7 +63,7 @@ use Rattle.statuses.specs.Faults.{faultNumber, faultPlace}
 use Rattle.statuses.specs.Status.{statusAt}
 use Rattle.buffers.proofs.ElementsBack.{elements-back}
 use Rattle.statuses.specs.Call.{Call, Outcome, refused, given, callOf, BufferCall, BufferOutcome, rejected, written, bufferCallOf}
-use Rattle.yurdelmiz.specs.Calls.{anomalyOutcome, keplerCall, earthFixedAt, stateOutcome, positionCall, elementsOutcome, elementsCall, dayOutcome, labelCall, labelOutcome, addOutcome, addCall, readOutcome, readCall, darkTestOutcome, darkTestCall, salvageOutcome, salvageCall}
+use Rattle.yurdelmiz.specs.Calls.{anomalyOutcome, keplerCall, earthFixedAt, stateOutcome, positionCall, elementsOutcome, elementsCall, twoLineOutcome, twoLineCall, dayOutcome, labelCall, labelOutcome, addOutcome, addCall, readOutcome, readCall, darkTestOutcome, darkTestCall, salvageOutcome, salvageCall}
 use Rattle.statuses.proofs.Endings.{ends-refused, ends-given}
 
 -- ---- status 0
@@ -149,6 +157,53 @@ elements-by text answer (parsed.Whole el) e g =
 pub elements-accepted : (text buffer : List ℕ) → elementsCall text buffer .status ≡ 0 → ElementsAnswer text (elementsCall text buffer .answer)
 unfolding elementsCall
 elements-accepted text buffer s = elements-by text _ (parsed text) refl (accepted _ _ buffer s)
+
+-- ---- yurdelmiz_two_line
+
+-- the lines give elements that pass the checks, and that the calls read from the answer
+pub record TwoLineAnswer (first second : List ℕ) (axis : ℕ) (node-rate perigee-rate : ℤ) (answer : List ℕ) : Type 0 where
+  pub elements : Elements
+  pub reading-is : twoLineReading first second axis node-rate perigee-rate ≡ two-line.Taken elements
+  pub passes : checked elements ≡ Passed
+  pub answer-is : answer ≡ elementsBytes elements
+  pub elements-are : elementsOf answer ≡ elements
+
+-- within their types
+taken-held : (first second : List ℕ) (axis : ℕ) (node-rate perigee-rate : ℤ) (el : Elements) → twoLineReading first second axis node-rate perigee-rate ≡ two-line.Taken el → Held el
+taken-held first second axis node-rate perigee-rate el e =
+    let p = taken-passed first second axis node-rate perigee-rate el e in
+    let a = elements-passed el (p .passes) in
+    let h : AnglesHeld el = rw (p .is) (angles-held first second axis node-rate perigee-rate) in
+    record {
+      eccentricity = omega (arith, a .eccentricity-le);
+      semi-major-axis = omega (arith, a .axis-le);
+      inclination = h .inclination;
+      node = h .node;
+      argument-of-perigee = h .argument-of-perigee;
+      mean-anomaly = h .mean-anomaly;
+      mean-motion = omega (arith, a .motion-le);
+      node-rate = sfits-within (a .node-rate) tt;
+      perigee-rate = sfits-within (a .perigee-rate) tt;
+      epoch-revolution = omega (arith, a .revolution-le);
+      epoch = sfits-within (h .epoch) tt;
+      derivative = sfits-within (a .derivative) tt;
+    }
+
+two-line-by : (first second : List ℕ) (axis : ℕ) (node-rate perigee-rate : ℤ) (answer : List ℕ) (r : TwoLineReading) → twoLineReading first second axis node-rate perigee-rate ≡ r → Ending (twoLineOutcome r) answer → TwoLineAnswer first second axis node-rate perigee-rate answer
+two-line-by first second axis node-rate perigee-rate answer (two-line.Refused refusal place) e g = absurd (omega (arith, never-0 refusal))
+two-line-by first second axis node-rate perigee-rate answer (two-line.Taken el) e g =
+    record {
+      elements = el;
+      reading-is = e;
+      passes = taken-passed first second axis node-rate perigee-rate el e .passes;
+      answer-is = g;
+      elements-are = rw g (ap elementsOf (sym (append-nil (elementsBytes el))) ∙ elements-back el [] (taken-held first second axis node-rate perigee-rate el e));
+    }
+
+pub two-line-accepted : (first second : List ℕ) (axis : ℕ) (node-rate perigee-rate : ℤ) (buffer : List ℕ) → twoLineCall first second axis node-rate perigee-rate buffer .status ≡ 0 → TwoLineAnswer first second axis node-rate perigee-rate (twoLineCall first second axis node-rate perigee-rate buffer .answer)
+unfolding twoLineCall
+two-line-accepted first second axis node-rate perigee-rate buffer s =
+    two-line-by first second axis node-rate perigee-rate _ (twoLineReading first second axis node-rate perigee-rate) refl (accepted _ _ buffer s)
 
 -- the parts of the result where the text is malformed, as YURDELMIZ_STATUS, YURDELMIZ_LINE and YURDELMIZ_ELEMENT take it apart
 pub record FaultResult (line element number result : ℕ) : Type 0 where
