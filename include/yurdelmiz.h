@@ -243,11 +243,12 @@ uint64_t yurdelmiz_elements(const uint8_t *text, size_t text_len,
  *                                             53 - 63  mean motion, revolutions a day
  *                                             64 - 68  revolution at the epoch
  *
- * Leading blanks stand for zeros in satellite numbers and the revolution, and ahead of the point in angles and
- * the mean motion. The years 57 to 99 are 1957 to 1999, and 00 to 56 are 2000 to 2056. The epoch is moved back to
- * its full second, and with it the mean anomaly and the number of the revolution. Refusals 17, 18, 20 at place
- * 0, 19 ahead of 20 at the first column of the first bad field; then 1 to 7, 16 and 8 for the elements, at
- * place 0.
+ * Each field is a decimal with its point where the layout has it. Leading blanks stand for zeros in satellite
+ * numbers and the revolution, and ahead of the point in angles and the mean motion. The sign of the derivative is
+ * a blank, a plus or a minus. The years 57 to 99 are 1957 to 1999, and 00 to 56 are 2000 to 2056. The epoch is
+ * moved back to its full second, and with it the mean anomaly and the number of the revolution. Refusals 17, 18,
+ * 19, 20 in this order, each for both lines before the next, then 1 to 7, 16 and 8 for the elements; 19 at the
+ * first column of the first bad field, on the second line with 69 added, the others at place 0.
  *
  *   answer, 52 bytes: `elements`, as above
  */

@@ -1,4 +1,4 @@
--- Decimal digits as bytes of ASCII: docs/FORMATS.md. Assumes nothing.
+-- Decimal digits as bytes of ASCII: docs/FORMATS.md, and document 01, "Two-line elements". Assumes nothing.
 use Prim.Native.Nat.{ℕ, _-_}
 use mathlib.Core.Bool.{Bool, _&&_, cond}
 use lib.Dec.{leb}

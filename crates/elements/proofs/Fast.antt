@@ -1,21 +1,15 @@
 -- A mean motion beyond what 5 allows. Assumes nothing.
 use mathlib.Core.Path.{_≡_, refl}
 use mathlib.Core.Bool.{Bool, true, false, _||_}
-use Prim.Native.Nat.{ℕ, _^_, _<_}
+use Prim.Native.Nat.{_<_}
 use borrow.Author.Tests.{lt-ltb}
 use lib.Dec.{ltb}
 use Rattle.refusal.specs.declared.Refusal.{Refusal}
-use Rattle.refusal.specs.declared.Refusal.the-variants.{Eccentricity, SemiMajorAxis, PerigeeDistance, Inclination, MeanMotion}
+use Rattle.refusal.specs.declared.Refusal.the-variants.{MeanMotion}
 use Rattle.elements.specs.declared.Elements.{Elements}
 use Rattle.elements.specs.declared.Verdict.{Verdict}
 use Rattle.elements.specs.declared.Verdict.the-variants.{Passed, Refused}
-use Rattle.elements.specs.Elements.{refuseIf, outside, perigeeBelow, checkedTo7, checked}
-
--- 1 to 4
-abbrev pub checkedTo4 : ℕ → ℕ → ℕ → Verdict
-checkedTo4 e a i =
-    let c2 = refuseIf (refuseIf Passed (ltb 9_000_000 e) Eccentricity) (outside a 6_600_000 100_000_000) SemiMajorAxis in
-    refuseIf (refuseIf c2 (perigeeBelow a e) PerigeeDistance) (ltb (2 ^ 31) i) Inclination
+use Rattle.elements.specs.Elements.{refuseIf, checkedTo4, checkedTo7, checked}
 
 -- what is refused stays refused
 refused-stays : (v : Verdict) (r : Refusal) (t : Bool) (s : Refusal) → refuseIf (refuseIf v true r) t s ≡ refuseIf v true r

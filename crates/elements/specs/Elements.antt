@@ -34,17 +34,22 @@ leastMotion d = 20_000_000 + 60 * natAbs d
 abbrev pub derivativeBeyond : ℕ → ℤ → Bool
 derivativeBeyond n d = ltb 1_000_000 (natAbs d) || ltb n (leastMotion d)
 
+-- 1 to 4, of an eccentricity, a semi-major axis and an inclination
+abbrev pub checkedTo4 : ℕ → ℕ → ℕ → Verdict
+checkedTo4 e a i =
+    -- 1
+    let c1 = refuseIf Passed (ltb 9_000_000 e) Eccentricity in
+    -- 2
+    let c2 = refuseIf c1 (outside a 6_600_000 100_000_000) SemiMajorAxis in
+    -- 3
+    let c3 = refuseIf c2 (perigeeBelow a e) PerigeeDistance in
+    -- 4
+    refuseIf c3 (ltb (2 ^ 31) i) Inclination
+
 -- 1 to 7
 unfoldable pub checkedTo7 : Elements → Verdict
 checkedTo7 el =
-    -- 1
-    let c1 = refuseIf Passed (ltb 9_000_000 (el .eccentricity)) Eccentricity in
-    -- 2
-    let c2 = refuseIf c1 (outside (el .«semi_major_axis») 6_600_000 100_000_000) SemiMajorAxis in
-    -- 3
-    let c3 = refuseIf c2 (perigeeBelow (el .«semi_major_axis») (el .eccentricity)) PerigeeDistance in
-    -- 4
-    let c4 = refuseIf c3 (ltb (2 ^ 31) (el .inclination)) Inclination in
+    let c4 = checkedTo4 (el .eccentricity) (el .«semi_major_axis») (el .inclination) in
     -- 5
     let c5 = refuseIf c4 (outside (el .«mean_motion») 20_000_000 1_700_000_000) MeanMotion in
     -- 6: either rate

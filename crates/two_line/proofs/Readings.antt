@@ -9,15 +9,15 @@ use native.Mathlib.Omega.{arith}
 use lib.Dec.{eqb}
 use lib.IntN.{ℤ}
 use Rattle.refusal.specs.declared.Refusal.the-variants as refusal
-use Rattle.elements.specs.Elements.{refuseIf, checked}
+use Rattle.elements.specs.Elements.{refuseIf, checkedTo4, checked}
 use Rattle.elements.specs.declared.Elements.{Elements}
 use Rattle.elements.specs.declared.Verdict.{Verdict}
 use Rattle.elements.specs.declared.Verdict.the-variants as verdict
-use Rattle.elements.proofs.Fast.{checkedTo4, too-fast}
+use Rattle.elements.proofs.Fast.{too-fast}
 use Rattle.two_line.specs.declared.TwoLineReading.{TwoLineReading}
 use Rattle.two_line.specs.declared.TwoLineReading.the-variants.{Refused}
 use Rattle.two_line_fields.specs.Fields.{valueOf, firstBad}
-use Rattle.two_line_fields.specs.Layout.{satelliteNumber, motion}
+use Rattle.two_line_fields.specs.Layout.{satelliteNumber, meanMotion}
 use Rattle.two_line.specs.Lines.{begins, checksumHolds}
 use Rattle.two_line.specs.Reading.{takenWith, taken, judged, twoLineReading}
 
@@ -72,6 +72,6 @@ module _ (first second : List ℕ) (axis : ℕ) (node-rate perigee-rate : ℤ) w
         unfolding twoLineReading
         numbers-refused n = rw (b, s, f, n)
 
-        pub elements-judged : eqb (valueOf first satelliteNumber) (valueOf second satelliteNumber) ≡ true → answered (min (valueOf second motion) (2 ^ 32 - 1)) ≡ answer
+        pub elements-judged : eqb (valueOf first satelliteNumber) (valueOf second satelliteNumber) ≡ true → answered (min (valueOf second meanMotion) (2 ^ 32 - 1)) ≡ answer
         unfolding twoLineReading taken
-        elements-judged n = rw (b, s, f, n) (motion-held (valueOf second motion))
+        elements-judged n = rw (b, s, f, n) (motion-held (valueOf second meanMotion))

@@ -13,7 +13,7 @@ use Rattle.elements.specs.declared.Verdict.the-variants as verdict
 use Rattle.two_line_fields.specs.Calendar.{daysBefore}
 use Rattle.two_line_fields.specs.Decimals.{byteOf}
 use Rattle.two_line_fields.specs.Fields.{yearOf, valueOf, firstBad}
-use Rattle.two_line_fields.specs.Layout.{satelliteNumber, day, halfDerivative, inclination, node, eccentricity, perigee, anomaly, motion, revolution}
+use Rattle.two_line_fields.specs.Layout.{satelliteNumber, day, halfDerivative, inclination, node, eccentricity, argumentOfPerigee, meanAnomaly, meanMotion, revolution}
 use Rattle.two_line.specs.Lines.{begins, checksumHolds}
 use Rattle.two_line.specs.declared.TwoLineReading.{TwoLineReading}
 use Rattle.two_line.specs.declared.TwoLineReading.the-variants.{Taken, Refused}
@@ -40,7 +40,7 @@ amountOf n first = n * (microseconds first % 10 ^ 6) * 2 ^ 11 / 4_119_873_046_87
 unfoldable pub movedBack : ℕ → ℕ → ℕ
 movedBack angle amount = cond (ltb angle amount) (angle + 2 ^ 32 - amount) (angle - amount)
 
--- the revolution, unless 0, less 1 where the mean anomaly and the argument of perigee, their sum wrapped, were below the amount
+-- the revolution, unless 0, less 1 where the mean anomaly and the argument of perigee, their sum wrapped, were below the amount; 0 less 1 is 0 in ℕ
 unfoldable pub revolutionBack : ℕ → ℕ → ℕ → ℕ
 revolutionBack number sum amount = cond (ltb (sum % 2 ^ 32) amount) (number - 1) number
 
@@ -55,8 +55,8 @@ derivativeOf first =
 -- with the mean motion n
 unfoldable pub takenWith : ℕ → List ℕ → List ℕ → ℕ → ℤ → ℤ → Elements
 takenWith n first second axis node-rate perigee-rate =
-    let w = angleOf (valueOf second perigee) in
-    let M = angleOf (valueOf second anomaly) in
+    let w = angleOf (valueOf second argumentOfPerigee) in
+    let M = angleOf (valueOf second meanAnomaly) in
     let amount = amountOf n first in
     record {
       eccentricity = valueOf second eccentricity;
@@ -75,7 +75,7 @@ takenWith n first second axis node-rate perigee-rate =
 
 -- that of line 2, which may be past 32 bits
 unfoldable pub taken : List ℕ → List ℕ → ℕ → ℤ → ℤ → Elements
-taken first second = takenWith (valueOf second motion) first second
+taken first second = takenWith (valueOf second meanMotion) first second
 
 -- ---- the refusals, in their order
 

@@ -12,7 +12,7 @@ ghost use lib.Dec.{eqb};
 ghost use Rattle.trig.specs.Angle.{angleOf};
 ghost use Rattle.two_line_fields.specs.declared.Form.the-variants.{Angle};
 ghost use Rattle.two_line_fields.specs.Fields.{valueOf, badFrom};
-ghost use Rattle.two_line_fields.specs.Layout.{satelliteNumber, firstLine, secondLine, motion};
+ghost use Rattle.two_line_fields.specs.Layout.{satelliteNumber, firstLine, secondLine, meanMotion};
 ghost use Rattle.two_line.specs.Reading.{derivativeOf, takenWith, twoLineReading};
 
 pub enum TwoLineReading {
@@ -64,7 +64,7 @@ fn half_derivative(first: &[u8]) -> i32
 
 // The mean motion of line 2, as far as 32 bits hold it: 5 refuses the greatest number that they hold.
 fn mean_motion(second: &[u8]) -> u32
-    ensures { λ r. ⌜ r ≡ min (valueOf (now (second .entry)) motion) (2 ^ 32 - 1) ⌝ }
+    ensures { λ r. ⌜ r ≡ min (valueOf (now (second .entry)) meanMotion) (2 ^ 32 - 1) ⌝ }
 {
     let value = two_line_fields::value(second, 53, Form::MeanMotion);
     if value < 0x1_0000_0000 {

@@ -1,7 +1,7 @@
 -- The columns are those of the published layout. Assumes nothing.
 use mathlib.Core.Path.{_≡_, refl}
 use mathlib.Core.List.{[], _∷_, map}
-use Rattle.two_line_fields.specs.Layout.{Field, day, halfDerivative, inclination, node, perigee, anomaly, motion, firstLine, secondLine, lastColumn, pointColumn}
+use Rattle.two_line_fields.specs.Layout.{Field, day, halfDerivative, inclination, node, argumentOfPerigee, meanAnomaly, meanMotion, firstLine, secondLine, lastColumn, pointColumn}
 
 -- line 1: 3 to 7, 19 to 20, 21 to 32, 34 to 43
 pub first-line : (map (λ (f : Field). f .column) firstLine ≡ 3 ∷ 19 ∷ 21 ∷ 34 ∷ []) × (map lastColumn firstLine ≡ 7 ∷ 20 ∷ 32 ∷ 43 ∷ [])
@@ -12,5 +12,5 @@ pub second-line : (map (λ (f : Field). f .column) secondLine ≡ 3 ∷ 9 ∷ 18
 second-line = (refl, refl)
 
 -- the points that are written
-pub points : map pointColumn (day ∷ halfDerivative ∷ inclination ∷ node ∷ perigee ∷ anomaly ∷ motion ∷ []) ≡ 24 ∷ 35 ∷ 12 ∷ 21 ∷ 38 ∷ 47 ∷ 55 ∷ []
+pub points : map pointColumn (day ∷ halfDerivative ∷ inclination ∷ node ∷ argumentOfPerigee ∷ meanAnomaly ∷ meanMotion ∷ []) ≡ 24 ∷ 35 ∷ 12 ∷ 21 ∷ 38 ∷ 47 ∷ 55 ∷ []
 points = refl

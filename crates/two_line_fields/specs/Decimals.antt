@@ -8,7 +8,7 @@ use Rattle.digit.specs.Digit.{isDigit, digitValue}
 use Rattle.two_line_fields.specs.declared.Decimal.{Decimal}
 use Rattle.two_line_fields.specs.declared.Layout.{Layout}
 
--- the byte of a column
+-- the byte of a column, 0 where the line has none
 abbrev pub byteOf : List ℕ → ℕ → ℕ
 byteOf line column = getD line (column - 1) 0
 

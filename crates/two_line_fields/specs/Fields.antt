@@ -18,7 +18,7 @@ yearOf line = fullYear (decimalOf line (year .column) (layoutOf (year .form)) .v
 abbrev pub dayAllowed : List ℕ → ℕ → Bool
 dayAllowed line value = leb 1 (value / 10 ^ 8) && leb (value / 10 ^ 8) (daysIn (yearOf line))
 
--- an angle, in units of 10^-4 degree, is below 360 degrees
+-- an angle, in units of 10^-4 degree, is below 360 degrees, and a day is one of its year; any other number is allowed
 abbrev pub allowed : List ℕ → Form → ℕ → Bool
 allowed line Angle value = ltb value 3_600_000
 allowed line Day value = dayAllowed line value

@@ -63,20 +63,20 @@ node = at 18 Angle
 abbrev pub eccentricity : Field
 eccentricity = at 27 Eccentricity
 
-abbrev pub perigee : Field
-perigee = at 35 Angle
+abbrev pub argumentOfPerigee : Field
+argumentOfPerigee = at 35 Angle
 
-abbrev pub anomaly : Field
-anomaly = at 44 Angle
+abbrev pub meanAnomaly : Field
+meanAnomaly = at 44 Angle
 
-abbrev pub motion : Field
-motion = at 53 MeanMotion
+abbrev pub meanMotion : Field
+meanMotion = at 53 MeanMotion
 
 abbrev pub revolution : Field
 revolution = at 64 Number
 
 abbrev pub secondLine : List Field
-secondLine = satelliteNumber ∷ inclination ∷ node ∷ eccentricity ∷ perigee ∷ anomaly ∷ motion ∷ revolution ∷ []
+secondLine = satelliteNumber ∷ inclination ∷ node ∷ eccentricity ∷ argumentOfPerigee ∷ meanAnomaly ∷ meanMotion ∷ revolution ∷ []
 
 -- ---- the columns that follow from it
 

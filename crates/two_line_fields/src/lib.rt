@@ -24,8 +24,7 @@ pub enum Form {
     MeanMotion,
 }
 
-// The columns of a form, from the left: a sign or none; those ahead of the point, in which leading blanks may
-// stand for zeros; the point, where it is written; those behind it.
+// The columns of a form, from the left.
 pub struct Layout {
     pub sign: bool,
     pub ahead: u32,
@@ -96,7 +95,8 @@ fn layout_of(form: Form) -> Layout
     }
 }
 
-// The byte of a column, counted from 1.
+// The byte of a column, counted from 1. Callers here and below have numerals of the layout for columns, so that
+// what their `requires` ask of a column is no question.
 pub fn byte(line: &[u8], column: u32) -> u8
     requires { ⌜ 1 ≤ column ⌝ }
     ensures { λ r. ⌜ r ≡ byteOf (now (line .entry)) column ⌝ }
@@ -250,8 +250,8 @@ fn allowed(line: &[u8], form: Form, value: u64) -> bool
     }
 }
 
-// What a field holds. Its first column is a numeral of the layout, so that the `requires` is no question.
-pub fn field(line: &[u8], column: u32, form: Form) -> Decimal
+// What a field holds.
+fn field(line: &[u8], column: u32, form: Form) -> Decimal
     requires { ⌜ (1 ≤ column) × (column ≤ 69) ⌝ }
     ensures { λ r. ⌜ r ≡ fieldOf (now (line .entry)) (record { column = column; form = form }) ⌝ }
 {
@@ -262,6 +262,7 @@ pub fn field(line: &[u8], column: u32, form: Form) -> Decimal
     number
 }
 
+// The number of a field, 0 where it is bad.
 pub fn value(line: &[u8], column: u32, form: Form) -> u64
     requires { ⌜ (1 ≤ column) × (column ≤ 69) ⌝ }
     ensures { λ r. ⌜ r ≡ valueOf (now (line .entry)) (record { column = column; form = form }) ⌝ }
@@ -269,8 +270,7 @@ pub fn value(line: &[u8], column: u32, form: Form) -> u64
     field(line, column, form).value
 }
 
-// The place of a field that is bad, its first column behind those of the lines ahead, or else the one that
-// follows.
+// The place of a bad field, or else the one that follows; the columns ahead are those of the lines ahead.
 pub fn place_or(ahead: u32, line: &[u8], column: u32, form: Form, later: u32) -> u32
     requires { ⌜ (ahead ≤ 69) × (1 ≤ column) × (column ≤ 69) ⌝ }
     ensures { λ r. ⌜ r ≡ placeOr ahead (now (line .entry)) (record { column = column; form = form }) later ⌝ }

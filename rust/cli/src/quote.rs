@@ -3,7 +3,7 @@
 use std::os::unix::ffi::OsStrExt;
 use std::path::Path;
 
-/// The longest piece that a message repeats, in characters: a line of two-line elements with what ends it.
+/// The longest piece that a message repeats, in characters: a line of two-line elements and a few more.
 const LONGEST: usize = 72;
 
 /// A file's name, as it was given.

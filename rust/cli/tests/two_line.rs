@@ -218,7 +218,7 @@ fn refused(elements: impl AsRef<[u8]>, verdict: &str, told: &[&str]) {
 }
 
 const LINES: &str =
-    "17 at 0: a line of the two has not 69 characters, or does not begin with its number";
+    "17 at 0: a line of the two has not 69 bytes, or does not begin with its number";
 
 #[test]
 fn lines() {
@@ -282,8 +282,8 @@ fn checksums() {
         set(ONE, &TWO.replace("129.3", "129.4")),
         "18 at 0: a line of the two does not end with its checksum",
         &[
-            "yurdelmiz: elements, line 2: the checksum of its first 68 columns is 6, and column 69 has \"5\": a digit \
-             is wrong, lost or put in; compare it with the line as it came; found \"2 14129  25.6000 121.2000 6100000  \
+            "yurdelmiz: elements, line 2: the checksum of its first 68 columns is 6, and column 69 has \"5\": a digit or \
+             a minus is wrong, lost or put in; compare it with the line as it came; found \"2 14129  25.6000 121.2000 6100000  \
              40.1000 129.4000  2.05890000 16275\"\n",
         ],
     );
@@ -291,7 +291,8 @@ fn checksums() {
 
 #[test]
 fn fields() {
-    let field = "a field of the two lines is not a number as its columns have it, or is 360 degrees or more, or a day \
+    let field =
+        "a field of the two lines does not fit its layout, or is 360 degrees or more, or a day \
                  outside its year";
     for (text, place, told) in [
         (

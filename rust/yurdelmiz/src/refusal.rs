@@ -70,9 +70,9 @@ const TABLE: [(Refusal, u32, &str); 20] = [
     (Refusal::Component, 14, "a position or the Sun's direction is out of range"),
     (Refusal::Figures, 15, "the figures have 1,000 files already, or are beyond a bound of theirs"),
     (Refusal::MeanMotionDerivative, 16, "half the mean motion's derivative is beyond 0.01 revolutions a day squared, or brings the mean motion below 0.2 revolutions a day within 30 days of the epoch"),
-    (Refusal::Lines, 17, "a line of the two has not 69 characters, or does not begin with its number"),
+    (Refusal::Lines, 17, "a line of the two has not 69 bytes, or does not begin with its number"),
     (Refusal::Checksum, 18, "a line of the two does not end with its checksum"),
-    (Refusal::Field, 19, "a field of the two lines is not a number as its columns have it, or is 360 degrees or more, or a day outside its year"),
+    (Refusal::Field, 19, "a field of the two lines does not fit its layout, or is 360 degrees or more, or a day outside its year"),
     (Refusal::SatelliteNumbers, 20, "the two lines have different satellite numbers"),
     (Refusal::Day, 24, "the day is closed, or its state is none of a day"),
 ];

@@ -349,7 +349,7 @@ fn a_refusal_is_told_with_its_place() {
     assert_eq!(refused, Refused { refusal: Refusal::Field, place: 78 });
     assert_eq!(
         refused.to_string(),
-        "refused 19 at 78: a field of the two lines is not a number as its columns have it, or is \
+        "refused 19 at 78: a field of the two lines does not fit its layout, or is \
          360 degrees or more, or a day outside its year"
     );
     let field = TwoLineField::at(refused.place).unwrap();

@@ -17,14 +17,15 @@ pub enum Layout {
 
 impl Layout {
     pub fn of(field: &TwoLineField) -> Layout {
-        match field.name {
-            "satellite number" | "revolution at the epoch" => Layout::Number,
-            "year of the epoch" => Layout::Year,
-            "day of the epoch" => Layout::Day,
-            "half the derivative of the mean motion" => Layout::Derivative,
-            "eccentricity" => Layout::Eccentricity,
-            "mean motion" => Layout::MeanMotion,
-            _ => Layout::Angle,
+        match (field.line, field.first) {
+            (1 | 2, 3) | (2, 64) => Layout::Number,
+            (1, 19) => Layout::Year,
+            (1, 21) => Layout::Day,
+            (1, 34) => Layout::Derivative,
+            (2, 9 | 18 | 35 | 44) => Layout::Angle,
+            (2, 27) => Layout::Eccentricity,
+            (2, 53) => Layout::MeanMotion,
+            (line, first) => unreachable!("no field of line {line} begins in column {first}"),
         }
     }
 

@@ -122,6 +122,8 @@ fn one_line(one: &Line, end: usize) -> BadLine {
         )
     } else if bare.starts_with(b"1 ") {
         (end, "the second of the two lines is missing: the file ends before it")
+    } else if bare.starts_with(b"2 ") {
+        (one.number, "the first of the two lines is missing: it begins with \"1 \"")
     } else {
         (one.number, "the two lines are missing: one begins with \"1 \", the other with \"2 \"")
     };
@@ -193,7 +195,7 @@ mod tests {
             (ONE.to_owned(), 2, "the second of the two lines is missing"),
             (format!("OSCAR 10\n{ONE}\n\n"), 4, "the second of the two lines is missing"),
             ("OSCAR 10\n".to_owned(), 1, "the two lines are missing: one begins"),
-            (format!("{TWO}\n"), 1, "the two lines are missing: one begins"),
+            (format!("{TWO}\n"), 1, "the first of the two lines is missing"),
             (format!("{ONE}\r{TWO}\r"), 1, "the lines end with CR alone"),
             (format!("{set}x\n"), 3, "only a name may stand ahead"),
             (format!("OSCAR 10\n{set}x"), 4, "only a name may stand ahead"),

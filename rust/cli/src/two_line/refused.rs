@@ -59,7 +59,7 @@ impl TwoLineSet<'_> {
         let misfit = fields.filter_map(|field| self.misfit(&field)).next();
         let hint = misfit.unwrap_or_else(|| "compare it with the line as it came".to_owned());
         Some(format!(
-            "the checksum of its first 68 columns is {sum}, and column 69 has {}: a digit is wrong, lost or put in; \
+            "the checksum of its first 68 columns is {sum}, and column 69 has {}: a digit or a minus is wrong, lost or put in; \
              {hint}; found {}",
             quote::bytes(&[*last]),
             quote::bytes(&line.bytes)
@@ -99,7 +99,7 @@ impl TwoLineSet<'_> {
     }
 
     fn other_satellite(&self) -> String {
-        let mut fields = TwoLineField::ALL.into_iter().filter(|it| it.name == "satellite number");
+        let mut fields = TwoLineField::ALL.into_iter().filter(|it| it.first == 3);
         let [one, two] = [fields.next(), fields.next()].map(|field| match field {
             Some(it) => format!("{}: {}", self.columns(&it), quote::bytes(self.text_of(&it))),
             None => String::new(),
@@ -320,7 +320,7 @@ mod tests {
     fn checksums() {
         let other = format!("{}5", &ONE[..68]);
         let letter = TWO.replacen('1', "l", 1);
-        let wrong = "a digit is wrong, lost or put in";
+        let wrong = "a digit or a minus is wrong, lost or put in";
         let one = format!(
             "line 1: the checksum of its first 68 columns is 4, and column 69 has \"5\": {wrong}; compare it with \
              the line as it came; found \"{other}\""

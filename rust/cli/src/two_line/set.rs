@@ -64,20 +64,20 @@ impl<'a> TwoLineSet<'a> {
 
 /// The field of an element; of the epoch there are two.
 fn field_of(element: Element) -> Option<TwoLineField> {
-    let name = match element {
-        Element::Eccentricity => "eccentricity",
-        Element::Inclination => "inclination",
-        Element::Node => "right ascension of the ascending node",
-        Element::ArgumentOfPerigee => "argument of perigee",
-        Element::MeanAnomaly => "mean anomaly",
-        Element::MeanMotion => "mean motion",
-        Element::EpochRevolution => "revolution at the epoch",
-        Element::HalfMeanMotionDerivative => "half the derivative of the mean motion",
+    let place = match element {
+        Element::HalfMeanMotionDerivative => 34,
+        Element::Inclination => 69 + 9,
+        Element::Node => 69 + 18,
+        Element::Eccentricity => 69 + 27,
+        Element::ArgumentOfPerigee => 69 + 35,
+        Element::MeanAnomaly => 69 + 44,
+        Element::MeanMotion => 69 + 53,
+        Element::EpochRevolution => 69 + 64,
         Element::SemiMajorAxis | Element::NodeRate | Element::PerigeeRate | Element::Epoch => {
             return None;
         }
     };
-    TwoLineField::ALL.into_iter().find(|field| field.name == name)
+    TwoLineField::at(place)
 }
 
 impl Written for TwoLineSet<'_> {
