@@ -13,8 +13,8 @@ digit-range byte e =
     let two = and-true (leb 48 byte) (leb byte 57) e in
     (leb-true 48 byte (two .0), leb-true byte 57 (two .1))
 
-pub value-small : (byte : ℕ) → digitValue byte ≤ 9
-value-small byte = go (isDigit byte) (digit-range byte)
+pub digit-small : (byte : ℕ) → digitValue byte ≤ 9
+digit-small byte = go (isDigit byte) (digit-range byte)
   where
     go : (digit : Bool) → (digit ≡ true → (48 ≤ byte) × (byte ≤ 57)) → cond digit (byte - 48) 0 ≤ 9
     go true h = let r = h refl in omega arith

@@ -1,7 +1,7 @@
 // The epoch, moved back to the full second, and the mean anomaly and the revolution with it.
 use two_line_fields::Form;
 ghost use mathlib.Core.Path.{_≡_};
-ghost use Prim.Native.Nat.{_^_, _≤_, _<_};
+ghost use Prim.Native.Nat.{_^_, _≤_};
 ghost use Rattle.two_line.specs.Reading.{microseconds, secondsOf, epochOf, amountOf, movedBack, revolutionBack};
 
 // The millionths of a second from the start of the epoch's day.
@@ -35,6 +35,7 @@ pub(crate) fn amount(mean_motion: u32, first: &[u8]) -> u64
     mean_motion as u64 * part * 2_048 / 4_119_873_046_875
 }
 
+// No mean motion of 32 bits turns a whole turn in a second, which the `requires` asks.
 pub(crate) fn moved_back(angle: u32, amount: u64) -> u32
     requires { ⌜ amount ≤ 2 ^ 32 ⌝ }
     ensures { λ r. ⌜ r ≡ movedBack angle amount ⌝ }

@@ -6,7 +6,7 @@ use Prim.Native.Nat.{ℕ, zero, suc, _+_, _*_, _-_, _^_, _≤_, _<_}
 use native.Mathlib.Nat.{pow-succ', one-le-pow, mul-le-mul-right, mul-le-mul-left, mul-le-mul, mul-assoc, mul-one, le-trans}
 use native.Mathlib.Omega.{arith}
 use Rattle.digit.specs.Digit.{digitValue}
-use Rattle.digit.proofs.Range.{value-small}
+use Rattle.digit.proofs.Range.{digit-small}
 use Rattle.two_line_fields.specs.declared.Decimal.{Decimal}
 use Rattle.two_line_fields.specs.Decimals.{byteOf, number, bad, digitOrBlank, leadsOn, further}
 
@@ -64,4 +64,4 @@ unfolding further
 further-small line column zero leading m = omega (arith, mul-one (m + 1))
 further-small line column (suc n) leading m =
     let byte = byteOf line column in
-    small-either (digitOrBlank leading byte) _ (le-trans (further-small line (column + 1) n (leadsOn leading byte) (10 * m + digitValue byte)) (digit-behind m (digitValue byte) n (value-small byte))) (mul-le-mul {n₁ = 1} {m₁ = 1} (omega arith) (one-le-pow (suc n) 10 (omega arith)))
+    small-either (digitOrBlank leading byte) _ (le-trans (further-small line (column + 1) n (leadsOn leading byte) (10 * m + digitValue byte)) (digit-behind m (digitValue byte) n (digit-small byte))) (mul-le-mul {n₁ = 1} {m₁ = 1} (omega arith) (one-le-pow (suc n) 10 (omega arith)))

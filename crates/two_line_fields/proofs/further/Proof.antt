@@ -6,7 +6,7 @@ use borrow.Author.Needs.{needs}
 use borrow.Author.Tests.{not-true, not-false}
 use denote.Ref.{now}
 use Rattle.digit.specs.Digit.{digitValue}
-use Rattle.digit.proofs.Range.{value-small}
+use Rattle.digit.proofs.Range.{digit-small}
 use Rattle.two_line_fields.specs.Decimals.{byteOf, digitOrBlank, leadsOn, further}
 use Rattle.two_line_fields.proofs.Digits.{column-taken, column-bad, all-taken, room-behind, room-for-one}
 use Rattle.two_line_fields.proofs.further.Statement.{statement}
@@ -48,7 +48,7 @@ mul-value : tie.Need-mul-value Inv-loop μ-loop
 mul-value c = record { fits = omega (arith, room (c .before .before .before)) }
 
 add-value : tie.Need-add-value Inv-loop μ-loop
-add-value c = record { fits = omega (arith, room (c .before .before .before .before), value-small (c .before .before .before .byte .result), c .value .ensures) }
+add-value c = record { fits = omega (arith, room (c .before .before .before .before), digit-small (c .before .before .before .byte .result), c .value .ensures) }
 
 loop-again : tie.Need-loop-again Inv-loop μ-loop
 loop-again c =
@@ -62,7 +62,7 @@ loop-again c =
     let d = v .value .ensures ∙ ap digitValue b in
     let on = c .leads-on .ensures ∙ ap (leadsOn (l .leading)) b in (
       search needs,
-      rw d (room-behind (l .value) (digitValue byte) (a .columns) (l .i) (10 ^ 18) (search needs) (value-small byte) (l .inv .1)),
+      rw d (room-behind (l .value) (digitValue byte) (a .columns) (l .i) (10 ^ 18) (search needs) (digit-small byte) (l .inv .1)),
       rw (d, on) (column-taken (now (a .line)) (a .column) (a .columns) (l .i) (l .leading) (l .value) (search needs) e ∙ l .inv .2),
     )
 
