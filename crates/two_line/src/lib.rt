@@ -7,6 +7,7 @@ use elements::Verdict;
 use refusal::Refusal;
 use two_line_fields::Form;
 ghost use mathlib.Core.Path.{_≡_};
+ghost use mathlib.Core.Bool.{_&&_};
 ghost use Prim.Native.Nat.{_-_, _^_, _≤_, min};
 ghost use lib.Dec.{eqb};
 ghost use Rattle.trig.specs.Angle.{angleOf};
@@ -20,6 +21,12 @@ pub enum TwoLineReading {
     // With the first column of a field, on the second line with the 69 of the first ahead of it; 0 where no
     // field is at fault.
     Refused(Refusal, u32),
+}
+
+fn both(first: bool, second: bool) -> bool
+    ensures { λ r. ⌜ r ≡ (first && second) ⌝ }
+{
+    first && second
 }
 
 fn bad_in_first(first: &[u8], later: u32) -> u32
@@ -122,10 +129,10 @@ pub fn read(
 ) -> TwoLineReading
     ensures { λ r. ⌜ r ≡ twoLineReading (now (first .entry)) (now (second .entry)) «semi_major_axis» «node_rate» «perigee_rate» ⌝ }
 {
-    if !line::both_begin(first, second) {
+    if !both(line::begins(b'1', first), line::begins(b'2', second)) {
         return TwoLineReading::Refused(Refusal::Lines, 0);
     }
-    if !line::both_checksums_hold(first, second) {
+    if !both(line::checksum_holds(first), line::checksum_holds(second)) {
         return TwoLineReading::Refused(Refusal::Checksum, 0);
     }
     let place = bad_in_first(first, bad_in_second(second));

@@ -1,22 +1,15 @@
 // What is asked of each line whole.
 ghost use mathlib.Core.Path.{_≡_};
-ghost use mathlib.Core.Bool.{_&&_};
 ghost use Rattle.two_line.specs.Lines.{begins, weight, checksumHolds};
 
 // 69 bytes, and the line's number first.
-fn begins(number: u8, line: &[u8]) -> bool
+pub(crate) fn begins(number: u8, line: &[u8]) -> bool
     ensures { λ r. ⌜ r ≡ begins number (now (line .entry)) ⌝ }
 {
     if line.len() != 69 {
         return false;
     }
     two_line_fields::byte(line, 1) == number
-}
-
-pub(crate) fn both_begin(first: &[u8], second: &[u8]) -> bool
-    ensures { λ r. ⌜ r ≡ (begins 49 (now (first .entry)) && begins 50 (now (second .entry))) ⌝ }
-{
-    begins(b'1', first) && begins(b'2', second)
 }
 
 fn weight(byte: u8) -> u64
@@ -29,7 +22,7 @@ fn weight(byte: u8) -> u64
 }
 
 // Whether column 69 has the checksum of those ahead of it.
-fn checksum_holds(line: &[u8]) -> bool
+pub(crate) fn checksum_holds(line: &[u8]) -> bool
     ensures { λ r. ⌜ r ≡ checksumHolds (now (line .entry)) ⌝ }
 {
     let mut sum: u64 = 0;
@@ -39,10 +32,4 @@ fn checksum_holds(line: &[u8]) -> bool
         sum += weight(two_line_fields::byte(line, column));
     }
     two_line_fields::byte(line, 69) as u64 == 48 + sum % 10
-}
-
-pub(crate) fn both_checksums_hold(first: &[u8], second: &[u8]) -> bool
-    ensures { λ r. ⌜ r ≡ (checksumHolds (now (first .entry)) && checksumHolds (now (second .entry))) ⌝ }
-{
-    checksum_holds(first) && checksum_holds(second)
 }

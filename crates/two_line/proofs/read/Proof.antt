@@ -17,53 +17,60 @@ use Rattle.two_line.proofs.Readings.{lines-refused, checksum-refused, f
 use Rattle.two_line.proofs.read.Statement.{statement}
 use Rattle.two_line.proofs.read.Tie as tie
 
--- what the tests told so far
-begun : (c : tie.After-both-checksums-hold) → let a = c .before .before .before .before .before .args in (begins 49 (now (a .first)) && begins 50 (now (a .second))) ≡ true
-begun c = sym (c .before .before .both-begin .ensures) ∙ not-false _ (c .before .if1 .left)
+-- what the tests told
+begun : (c : tie.After-both) → let a = c .before .before .before .before .before .args in c .both .result ≡ (begins 49 (now (a .first)) && begins 50 (now (a .second)))
+begun c = rw (c .before .before .begins .ensures, c .before .begins2 .ensures) at (c .both .ensures)
 
-summed : (c : tie.After-bad-in-first) → let a = c .before .before .before .before .before .before .before .before .args in (checksumHolds (now (a .first)) && checksumHolds (now (a .second))) ≡ true
-summed c = sym (c .before .before .before .both-checksums-hold .ensures) ∙ not-false _ (c .before .before .if2 .left)
+summed : (c : tie.After-both2) → let a = c .before .before .before .before .before .before .before .before .before .args in c .both2 .result ≡ (checksumHolds (now (a .first)) && checksumHolds (now (a .second)))
+summed c = rw (c .before .before .checksum-holds .ensures, c .before .checksum-holds2 .ensures) at (c .both2 .ensures)
 
-place-is : (c : tie.After-bad-in-first) → let a = c .before .before .before .before .before .before .before .before .args in c .bad-in-first .result ≡ firstBad (now (a .first)) (now (a .second))
+place-is : (c : tie.After-bad-in-first) → let a = c .before .before .before .before .before .before .before .before .before .before .before .before .args in c .bad-in-first .result ≡ firstBad (now (a .first)) (now (a .second))
 unfolding firstBad
-place-is c = c .bad-in-first .ensures ∙ ap (badFrom 0 (now (c .before .before .before .before .before .before .before .before .args .first)) firstLine) (c .before .bad-in-second .ensures)
+place-is c = c .bad-in-first .ensures ∙ ap (badFrom 0 (now (c .before .before .before .before .before .before .before .before .before .before .before .before .args .first)) firstLine) (c .before .bad-in-second .ensures)
 
-judged-is : (c : tie.After-taken-with) → let a = c .before .before .before .before .before .before .before .before .before .before .before .before .before .args in judged (checked (c .taken-with .result)) (c .taken-with .result) ≡ twoLineReading (now (a .first)) (now (a .second)) (a .semi-major-axis) (a .node-rate) (a .perigee-rate)
+-- both lines begin as they are to, and end with their checksums
+begins-both : (c : tie.After-both2) → let a = c .before .before .before .before .before .before .before .before .before .args in (begins 49 (now (a .first)) && begins 50 (now (a .second))) ≡ true
+begins-both c = sym (begun (c .before .before .before .before)) ∙ not-false _ (c .before .before .before .if1 .left)
+
+sums-both : (c : tie.After-bad-in-first) → let a = c .before .before .before .before .before .before .before .before .before .before .before .before .args in (checksumHolds (now (a .first)) && checksumHolds (now (a .second))) ≡ true
+sums-both c = sym (summed (c .before .before .before)) ∙ not-false _ (c .before .before .if2 .left)
+
+judged-is : (c : tie.After-taken-with) → let a = c .before .before .before .before .before .before .before .before .before .before .before .before .before .before .before .before .before .args in judged (checked (c .taken-with .result)) (c .taken-with .result) ≡ twoLineReading (now (a .first)) (now (a .second)) (a .semi-major-axis) (a .node-rate) (a .perigee-rate)
 judged-is c =
     let v = c .before .before .before .before in
     let f = v .before in
     let k = f .before .before .before in
-    let s = k .before .before .before .before .before in
+    let s = k .before .before .before .before .before .before .before .before .before in
     let a = s .args in
     let e = rw (toZ-ofZ (s .fits .node-rate), toZ-ofZ (s .fits .perigee-rate), c .before .mean-motion .ensures) at (c .taken-with .ensures) in
-    ap (λ (el : Elements). judged (checked el) el) e ∙ elements-judged (now (a .first)) (now (a .second)) (a .semi-major-axis) (a .node-rate) (a .perigee-rate) (begun k) (summed f) (rw (← place-is f) (eq-eqb _ 0 (c .before .before .before .if3 .left))) (sym (v .same-satellite .ensures) ∙ not-false _ (c .before .before .if4 .left))
+    ap (λ (el : Elements). judged (checked el) el) e ∙ elements-judged (now (a .first)) (now (a .second)) (a .semi-major-axis) (a .node-rate) (a .perigee-rate) (begins-both k) (sums-both f) (rw (← place-is f) (eq-eqb _ 0 (c .before .before .before .if3 .left))) (sym (v .same-satellite .ensures) ∙ not-false _ (c .before .before .if4 .left))
 
 returns : tie.Need-returns
 returns c =
     let b = c .before in
-    let a = b .before .before .before .args in
-    lines-refused (now (a .first)) (now (a .second)) (a .semi-major-axis) (a .node-rate) (a .perigee-rate) (sym (b .both-begin .ensures) ∙ not-true _ (c .if1 .taken))
+    let a = b .before .before .before .before .before .args in
+    lines-refused (now (a .first)) (now (a .second)) (a .semi-major-axis) (a .node-rate) (a .perigee-rate) (sym (begun b) ∙ not-true _ (c .if1 .taken))
 
 returns-2 : tie.Need-returns-2
 returns-2 c =
     let k = c .before in
-    let a = k .before .before .before .before .before .args in
-    checksum-refused (now (a .first)) (now (a .second)) (a .semi-major-axis) (a .node-rate) (a .perigee-rate) (begun k) (sym (k .both-checksums-hold .ensures) ∙ not-true _ (c .if2 .taken))
+    let a = k .before .before .before .before .before .before .before .before .before .args in
+    checksum-refused (now (a .first)) (now (a .second)) (a .semi-major-axis) (a .node-rate) (a .perigee-rate) (begins-both k) (sym (summed k) ∙ not-true _ (c .if2 .taken))
 
 returns-3 : tie.Need-returns-3
 returns-3 c =
     let f = c .before .before in
     let k = f .before .before .before in
-    let a = k .before .before .before .before .before .args in
-    ap (Refused refusal.Field) (place-is f) ∙ field-refused (now (a .first)) (now (a .second)) (a .semi-major-axis) (a .node-rate) (a .perigee-rate) (begun k) (summed f) (rw (← place-is f) (ne-eqb _ 0 (c .if3 .taken)))
+    let a = k .before .before .before .before .before .before .before .before .before .args in
+    ap (Refused refusal.Field) (place-is f) ∙ field-refused (now (a .first)) (now (a .second)) (a .semi-major-axis) (a .node-rate) (a .perigee-rate) (begins-both k) (sums-both f) (rw (← place-is f) (ne-eqb _ 0 (c .if3 .taken)))
 
 returns-4 : tie.Need-returns-4
 returns-4 c =
     let v = c .before .before in
     let f = v .before in
     let k = f .before .before .before in
-    let a = k .before .before .before .before .before .args in
-    numbers-refused (now (a .first)) (now (a .second)) (a .semi-major-axis) (a .node-rate) (a .perigee-rate) (begun k) (summed f) (rw (← place-is f) (eq-eqb _ 0 (c .before .if3 .left))) (sym (v .same-satellite .ensures) ∙ not-true _ (c .if4 .taken))
+    let a = k .before .before .before .before .before .before .before .before .before .args in
+    numbers-refused (now (a .first)) (now (a .second)) (a .semi-major-axis) (a .node-rate) (a .perigee-rate) (begins-both k) (sums-both f) (rw (← place-is f) (eq-eqb _ 0 (c .before .if3 .left))) (sym (v .same-satellite .ensures) ∙ not-true _ (c .if4 .taken))
 
 returns-5 : tie.Need-returns-5
 returns-5 c =
@@ -80,7 +87,11 @@ read-spec =
     tie.close
     (tie.spec
     (λ c κs. search needs)
+    (λ c κs. search needs)
+    (λ c κs. search needs)
     returns
+    (λ c κs. search needs)
+    (λ c κs. search needs)
     (λ c κs. search needs)
     returns-2
     (λ c κs. search needs)
