@@ -1,5 +1,7 @@
 // Prints the worked example of source document 001, for Oscar-10 on 1985 August 12 at 01:45, beside
 // the articles' figures.
+#![tactic(auto)]
+
 ghost use Rattle.sun.specs.Contract.{WithinOne};
 
 use eclipse::ShadeAnswer;

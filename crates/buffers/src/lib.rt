@@ -1,4 +1,6 @@
 // What the answers of the C interface hold: include/yurdelmiz.h.
+#![tactic(auto)]
+
 mod answers;
 
 pub use answers::{

@@ -1,4 +1,6 @@
 // The state of a day in a buffer of the C interface: include/yurdelmiz.h.
+#![tactic(auto)]
+
 ghost use Rattle.std.specs.Prelude.{◌≡◌, ◌+◌, ◌≤◌, length, drop};
 ghost use Rattle.std.proofs.lemmas.List.Edits.{sets};
 ghost use Rattle.day_buffer.specs.State.{counts_in, day_of, day_bytes};

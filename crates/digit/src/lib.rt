@@ -1,4 +1,6 @@
 // Decimal digits as bytes.
+#![tactic(auto)]
+
 ghost use Rattle.std.specs.Prelude.{◌≡◌};
 ghost use Rattle.digit.specs.Digit.{is_digit, digit_value};
 

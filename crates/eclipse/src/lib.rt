@@ -1,4 +1,6 @@
 // Shade, and the Sun's elevation above the plane of the orbit: document 01, "Sun and shade".
+#![tactic(auto)]
+
 ghost use Rattle.std.specs.Prelude.{◌≡◌, ◌^◌};
 ghost use Rattle.integer.specs.Bound.{Within};
 ghost use Rattle.sun.specs.Contract.{WithinOne};

@@ -1,4 +1,6 @@
 // Tables of element sets: document 01, "Tables of element sets".
+#![tactic(auto)]
+
 mod insertion;
 mod lookup;
 mod table;

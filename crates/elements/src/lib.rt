@@ -1,5 +1,7 @@
 // Orbital elements, and the refusals that they and a time can meet: document 01, "Units" and "When the
 // build says no".
+#![tactic(auto)]
+
 ghost use Rattle.std.specs.Prelude.{◌≡◌};
 ghost use Rattle.elements.specs.Elements.{refuse_if, outside, perigee_below, rate_beyond, derivative_beyond, checked};
 ghost use Rattle.elements.specs.Time.{times_refused, time_refused, checked_at};

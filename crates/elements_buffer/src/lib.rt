@@ -1,4 +1,6 @@
 // Elements in 52 bytes: a row of a table of element sets, and `elements` of the C interface.
+#![tactic(auto)]
+
 ghost use Rattle.std.specs.Prelude.{◌≡◌, ◌+◌, ◌≤◌, length};
 ghost use Rattle.std.proofs.lemmas.List.Edits.{sets};
 ghost use Rattle.elements_buffer.specs.Buffer.{elements_of, elements_bytes};

@@ -1,4 +1,6 @@
 // An elements file: twelve lines of a name, a space and a whole number, in a fixed order.
+#![tactic(auto)]
+
 mod field;
 mod line;
 mod name;

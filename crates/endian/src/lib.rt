@@ -1,6 +1,8 @@
 // Little-endian numbers in slices of bytes. Each function asks that its bytes lie within the slice, a
 // length that its callers in the other crates have tested by then: the number of a record or a label
 // gives the offset.
+#![tactic(auto)]
+
 ghost use Rattle.std.specs.Prelude.{◌≡◌, ◌+◌, ◌*◌, ◌≤◌, ◌<◌, length, [], ◌∷◌};
 ghost use Rattle.std.proofs.lemmas.List.Edits.{sets};
 ghost use Rattle.std.specs.Int.{w32, w64};

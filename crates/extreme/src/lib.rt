@@ -1,4 +1,6 @@
 // The least and the greatest of numbers, by the order of IEEE 754, in which the two zeros are equal.
+#![tactic(auto)]
+
 ghost use Rattle.std.specs.Prelude.{◌≡◌};
 ghost use Rattle.std.specs.Float.Ieee.Scale.{finite};
 ghost use Rattle.extreme.specs.Extremes.{ahead, keep, is_of};

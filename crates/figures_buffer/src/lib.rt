@@ -1,4 +1,6 @@
 // Scale figures in a buffer of the C interface: include/yurdelmiz.h.
+#![tactic(auto)]
+
 ghost use Rattle.std.specs.Prelude.{◌≡◌, ◌+◌, ◌≤◌, length};
 ghost use Rattle.std.proofs.lemmas.List.Edits.{sets};
 ghost use Rattle.figures_buffer.specs.FigureBytes.{extreme_at, figures_in, extreme_bytes, figures_bytes};

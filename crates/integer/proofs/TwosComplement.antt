@@ -17,10 +17,10 @@ use Rattle.integer.proofs.Tests.{is_neg, is_pos}
 
 -- an i64 is read back as it is: one that a call gave, and one within a bound
 pub read_back : (z : ℤ) → mag z < 2 ^ 63 → to_z w64 (of_z w64 z) ≡ z
-read_back z h = to_z-of_z (record { sfits = h })
+read_back z h = to_z-of_z {w = w64} (record { sfits = h })
 
 pub read_within : {a : ℕ} {z : ℤ} → Within a z → T (ltb a (2 ^ 63)) → to_z w64 (of_z w64 z) ≡ z
-read_within h t = to_z-of_z (sfits_within h t)
+read_within h t = to_z-of_z {w = w64} (sfits_within h t)
 
 -- -1 - z turns `negsuc` into `pos`, and back
 down_negsuc : (n : ℕ) → negsuc 0 -ℤ negsuc n ≡ pos n

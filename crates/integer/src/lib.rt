@@ -1,5 +1,7 @@
 // Whole numbers: division rounded down, also of a scaled number, magnitude, two's-complement bits, the whole
 // square root.
+#![tactic(auto)]
+
 ghost use Rattle.std.specs.Prelude.{◌≡◌, ◌<◌, ◌^◌, pos, negsuc, nat_abs, ◌*ℤ◌};
 ghost use Rattle.std.specs.Int.Signed.{mag, quot_z};
 ghost use Rattle.std.specs.Int.{w32, w64};

@@ -1,4 +1,6 @@
 // Kepler's equation by halving: document 01, "Kepler's equation".
+#![tactic(auto)]
+
 mod guess;
 mod window;
 

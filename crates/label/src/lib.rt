@@ -1,4 +1,6 @@
 // Labels: the side of a revolution, a label's 24 bytes, and the field rules of refusal 13.
+#![tactic(auto)]
+
 ghost use Rattle.std.specs.Prelude.{◌≡◌, ◌+◌, ◌≤◌, pos, ◌+ℤ◌, length};
 ghost use Rattle.std.proofs.lemmas.List.Edits.{sets};
 ghost use Rattle.label.specs.Sides.{side_of};

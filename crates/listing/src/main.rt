@@ -1,5 +1,7 @@
 // The listing program: reads a label file on standard input and prints its counts and its labels, or the
 // refusal. An input that cannot be read to its end is no file: it prints the one line `failed`.
+#![tactic(auto)]
+
 ghost use Rattle.std.specs.Prelude.{◌≡◌, ◌*◌, ◌≤◌, length};
 ghost use Rattle.label_file.specs.File.{longest};
 ghost use Rattle.label_file.specs.Reading.{file_reading};

@@ -1,4 +1,6 @@
 // From orbital elements to position: document 01, "From elements to position".
+#![tactic(auto)]
+
 mod ellipse;
 mod turns;
 

@@ -1,4 +1,6 @@
 // Positions in metres, and their turns: document 01, "From elements to position".
+#![tactic(auto)]
+
 ghost use Rattle.std.specs.Prelude.{◌≡◌, ◌^◌};
 ghost use Rattle.integer.specs.Bound.{Within};
 ghost use Rattle.trig.specs.Contract.{SinesOf};

@@ -1,4 +1,6 @@
 // The refusals of document 01, "When the build says no", each with its number.
+#![tactic(auto)]
+
 ghost use Rattle.std.specs.Prelude.{◌≡◌};
 ghost use Rattle.refusal.specs.Numbers.{number_of};
 

@@ -1,5 +1,7 @@
 // Salvage: the labels of a file that has lost its end, with a fresh trailer: document 01, "Telemetry and
 // labels".
+#![tactic(auto)]
+
 ghost use Rattle.std.specs.Prelude.{◌≡◌};
 ghost use Rattle.salvage.specs.Salvage.{whole_labels};
 ghost use Rattle.salvage.specs.Contract.{Salvaged};

@@ -1,4 +1,6 @@
 // The three shades and their codes.
+#![tactic(auto)]
+
 ghost use Rattle.std.specs.Prelude.{◌≡◌};
 ghost use Rattle.shade.specs.Codes.{shade_code};
 

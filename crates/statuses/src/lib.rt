@@ -1,5 +1,7 @@
 // The statuses of the C interface that are no refusal's number alone, faults of an elements file and a number
 // with a place; and, in specs/, how a call ends: include/yurdelmiz.h.
+#![tactic(auto)]
+
 ghost use Rattle.std.specs.Prelude.{◌≡◌, ◌≤◌};
 ghost use Rattle.statuses.specs.Status.{status_at};
 ghost use Rattle.statuses.specs.Faults.{fault_number, fault_place};

@@ -1,4 +1,6 @@
 // The Sun at a time: document 01, "Sun and shade".
+#![tactic(auto)]
+
 ghost use Rattle.std.specs.Prelude.{◌≡◌, ◌+◌, ◌%◌, ◌^◌, ◌<◌, ◌≤◌, true, pos, ◌*ℤ◌};
 ghost use Rattle.integer.specs.Bound.{Within};
 ghost use Rattle.integer.specs.Division.{mod_z};

@@ -1,4 +1,6 @@
 // Times that document 01 allows.
+#![tactic(auto)]
+
 ghost use Rattle.std.specs.Prelude.{◌≡◌};
 ghost use Rattle.time.specs.Range.{in_range};
 

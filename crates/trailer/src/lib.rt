@@ -1,4 +1,6 @@
 // The trailer of a label file, and the counts of labels in it: document 01, "Telemetry and labels".
+#![tactic(auto)]
+
 ghost use Rattle.std.specs.Prelude.{◌≡◌, ◌+◌, ◌≤◌, length};
 ghost use Rattle.std.proofs.lemmas.List.Edits.{sets};
 ghost use Rattle.trailer.specs.declared.Form.TheVariants.{Bytes24};

@@ -1,4 +1,6 @@
 // Angles, and their sines and cosines in units of 2^-30: document 01, "Units" and "The sheet sine".
+#![tactic(auto)]
+
 ghost use Rattle.std.specs.Prelude.{◌≡◌, ◌≤◌, ◌^◌, nat_abs};
 ghost use Rattle.trig.specs.Angle.{angle_of};
 ghost use Rattle.trig.specs.Contract.{Bounded, CosineAt, SinesAt};

@@ -1,4 +1,6 @@
 // Two-line elements: document 01, "Two-line elements".
+#![tactic(auto)]
+
 mod epoch;
 mod line;
 

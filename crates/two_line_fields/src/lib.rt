@@ -1,5 +1,7 @@
 // The fields of two-line elements: the number that stands in the columns of each, and the place of one that is
 // bad: document 01, "Two-line elements".
+#![tactic(auto)]
+
 mod calendar;
 
 ghost use Rattle.std.specs.Prelude.{◌≡◌, not, ◌&&◌, ◌≤◌, eqb};

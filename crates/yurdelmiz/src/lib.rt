@@ -1,4 +1,6 @@
 // The C interface, as include/yurdelmiz.h documents it: numbers and byte slices only.
+#![tactic(auto)]
+
 ghost use Rattle.std.specs.Prelude.{◌≡◌};
 ghost use Rattle.trig.specs.Contract.{CosineAt};
 ghost use Rattle.trig.specs.ExactSine.{SineAt};

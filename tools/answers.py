@@ -1,0 +1,204 @@
+#!/usr/bin/env python3
+"""Turns a crate's proofs/F/Proof.antt of the form `tie.close (tie.spec ..)` into Invariants.antt and Answers.antt.
+
+usage: answers.py NAMES CRATE [FUNCTION..]
+
+NAMES is the names.json that `rt check --generated DIR --old-names` writes in the folder CRATE. Each answer under
+`tie.Need-X` becomes the answer to that goal, with the steps and the places that it cites by their names there; what
+`tie.spec` was given in place is left to the check. A line 'look:' says what is to be seen to by hand. It goes by text and proves
+nothing."""
+
+import json
+import os
+import re
+import sys
+
+TOKEN = re.compile(r"[A-Za-z+_][A-Za-z0-9_'₀-₉ℕℤκμ-]*")
+KINDS = r"^(?:overflow|nonzero|slice_bounds|bounds|slice-bounds)-"
+
+
+def plain(word):
+    return word.replace("_", "-")
+
+
+def snake(word):
+    return word.replace("-", "_")
+
+
+def blocks(text):
+    """The file's top: comments and `use` lines; then declarations, each with what stands above it."""
+    lines = text.split("\n")
+    at = 0
+    while at < len(lines) and (lines[at].startswith(("--", "use ", "pub use ")) or not lines[at].strip()):
+        at += 1
+    # A comment right above the first declaration is its own.
+    while at > 0 and lines[at - 1].startswith("--") and not all(l.startswith("--") for l in lines[:at]):
+        at -= 1
+    head, rest = lines[:at], lines[at:]
+    out, block = [], []
+    for line in rest:
+        if not line.strip():
+            if block:
+                out.append("\n".join(block))
+            block = []
+        else:
+            block.append(line)
+    if block:
+        out.append("\n".join(block))
+    return head, out
+
+
+def convert(path, names, crate, function):
+    with open(path, encoding="utf-8") as f:
+        text = f.read()
+    looks = []
+    if "tie.close" not in text:
+        return None, None, ["no tie.close"]
+    head, parts = blocks(text)
+    needs = {}
+    for old, new in names["needs"]:
+        needs[plain(old)] = new
+    places = {}
+    steps = {}
+    for (old, parent, (step, new_step), _, _), new in zip(names["places"], names["places_by_name"]):
+        places[plain(old)] = new
+        if step:
+            steps[plain(step)] = new_step
+    loops = {plain(old): (new, live) for ((old, new), live) in names["loops"]}
+    changed = names["changed"]
+
+    def need(word):
+        w = plain(word)
+        for x in (w, re.sub(KINDS, "", w)):
+            if x in needs:
+                return needs[x]
+        return None
+
+    # 1. The names of the answers.
+    new_names = {}
+    requires = set()
+    for part in parts:
+        for line in part.split("\n"):
+            m = re.match(r"\s*(?:pub )?(\S+) : (?:\(t : ℕ\) → )?tie\.Need-(\S+)", line)
+            if m:
+                new = need(m[2])
+                if new is None:
+                    looks.append(f"no goal for {m[1]} : Need-{m[2]}")
+                    new = "NOGOAL-" + m[2]
+                new_names[m[1]] = new
+                if new.endswith("-requires"):
+                    requires.add(new)
+    out, inv, brought = [], [], set()
+    for part in parts:
+        lines = part.split("\n")
+        first = next((l for l in lines if not l.startswith("--") and l.strip()), "")
+        if "tie.close" in part:
+            inline = re.findall(r"\(λ c(?: κs)?\. (?!search rules\))[^\n]*", part)
+            for it in inline:
+                looks.append("in place: " + it.strip())
+            continue
+        m = re.match(r"abbrev (invariant|decreases)-(\S+) : tie\.", first)
+        if m and plain(m[2]) in loops:
+            new, live = loops[plain(m[2])]
+            index = [plain(o) for ((o, _), _) in names["loops"]].index(plain(m[2]))
+            body = part
+            eq = next(i for i, l in enumerate(lines) if re.match(rf"{m[1]}-{re.escape(m[2])} .*=", l))
+            params = lines[eq].split("=", 1)[0].split()[1:]
+            rest = "\n".join([lines[eq].split("=", 1)[1]] + lines[eq + 1 :])
+            names_of = {}
+            for p in params:
+                base = p.rstrip("₀")
+                names_of[p] = ("l.initial." if p.endswith("₀") else "l.") + base
+            rest = TOKEN.sub(lambda t: names_of.get(t.group(), t.group()), rest)
+            comment = "\n".join(l for l in lines if l.startswith("--"))
+            inv.append((comment + "\n" if comment else "") + f"abbrev pub {m[1]}-{new} : goal.{m[1]}-{new}\n{m[1]}-{new} l ={rest}")
+            continue
+        if m:
+            looks.append("loop? " + first)
+        part = re.sub(r"tie\.Need-(\S+)((?: invariant-\S+| decreases-\S+)*)", lambda k: "goal." + (need(k[1]) or "NOGOAL-" + k[1]), part)
+        for old, new in new_names.items():
+            part = re.sub(rf"(?<![\w'.·-]){re.escape(old)}(?![\w'-])", new, part)
+        for new in new_names.values():
+            part = re.sub(rf"(?m)^{re.escape(new)} : ", f"pub {new} : ", part)
+        def place(k):
+            new = places.get(plain(k[1]), "NOPLACE-" + k[1])
+            brought.add(new)
+            return new
+
+        part = re.sub(r"tie\.(\w[\w'-]*)", place, part)
+        for w in re.findall(r"NOPLACE-(\S+)", part):
+            looks.append("no place " + w)
+        # 2. Steps, behind a dot.
+        part = part.replace(".type-inv", ".type_inv")
+        part = re.sub(r"\.([a-z_][\w'-]*)", lambda k: "." + steps[plain(k[1])] if plain(k[1]) in steps and k[1] not in ("before", "args") else k[0], part)
+        for new in requires:
+            part = re.sub(rf"(?m)^({re.escape(new)} \w+(?: \w+)*?) κs =", r"\1 =", part)
+        if re.search(r"\bκs\b", part):
+            looks.append("κs: " + part.split("\n")[0])
+        if re.search(r"\.new\.1\.", part) or re.search(r"\.1\.1", part):
+            looks.append(".new.1: " + part.split("\n")[0])
+        out.append(part)
+    # 3. Lemmas of the file's own, in snake case.
+    own = {}
+    for part in out:
+        for w in re.findall(r"(?m)^(?:abbrev )?([a-z][\w'-]*) : ", part):
+            if "-" in w and w not in new_names.values():
+                own[w] = snake(w)
+    for old, new in own.items():
+        out = [re.sub(rf"(?<![\w'.·-]){re.escape(old)}(?![\w'-])", new, part) for part in out]
+    # A width that was found by itself.
+    out = [re.sub(r"to_z-of_z \((record|sfits_within|sfits_widen)", r"to_z-of_z {w = w64} (\1", part) for part in out]
+    keep = []
+    for line in head:
+        if re.match(rf"use Rattle\.{crate}\.proofs\.\S*\.(Statement|Tie)\b", line):
+            continue
+        keep.append(line)
+    module = function.replace("/", ".")
+    places_line = f"use Rattle.{crate}.proofs.{module}.Goals.{{{', '.join(sorted(brought))}}}\n" if brought else ""
+    answers = "\n".join(keep).rstrip("\n") + f"\nuse Rattle.{crate}.proofs.{module}.Goals as goal\n" + places_line + "\n" + "\n\n".join(out) + "\n" if out else None
+    invariants = None
+    if inv:
+        body = "\n\n".join(inv)
+        used = set(TOKEN.findall(body)) | set(re.findall(r"[^\s\w(){}.]+", body))
+        uses = []
+        for line in keep:
+            m = re.match(r"use (\S+)\.\{(.*)\}", line)
+            if m:
+                wanted = [x.strip() for x in m[2].split(",") if x.strip() in used or x.strip().strip("◌") in body]
+                if wanted:
+                    uses.append(f"use {m[1]}.{{{', '.join(wanted)}}}")
+        invariants = "\n".join(uses) + f"\nuse Rattle.{crate}.proofs.{module}.Given as goal\n\n" + body + "\n"
+    return answers, invariants, looks
+
+
+def main():
+    with open(sys.argv[1], encoding="utf-8") as f:
+        names = json.load(f)
+    folder = os.path.abspath(sys.argv[2])
+    crate = os.path.basename(folder)
+    wanted = sys.argv[3:]
+    top = os.path.join(folder, "proofs")
+    for where, _, files in sorted(os.walk(top)):
+        if "Proof.antt" not in files:
+            continue
+        function = os.path.relpath(where, top)
+        if wanted and function not in wanted:
+            continue
+        key = f"Rattle-{crate}-proofs.{function.replace('/', '.')}.Lts"
+        if key not in names:
+            print(f"look: {function}: no names")
+            continue
+        answers, invariants, looks = convert(os.path.join(where, "Proof.antt"), names[key], crate, function)
+        for it in looks:
+            print(f"look: {function}: {it}")
+        if answers is None and invariants is None and looks and looks[0] == "no tie.close":
+            continue
+        os.remove(os.path.join(where, "Proof.antt"))
+        for name, it in (("Answers.antt", answers), ("Invariants.antt", invariants)):
+            if it:
+                with open(os.path.join(where, name), "w", encoding="utf-8") as f:
+                    f.write(it)
+
+
+if __name__ == "__main__":
+    main()
