@@ -60,9 +60,13 @@ def convert(path, names, crate, function):
         needs[plain(old)] = new
     places = {}
     steps = {}
-    for (old, parent, (step, new_step), _, _), new in zip(names["places"], names["places_by_name"]):
+    called = {}
+    for (old, parent, (step, new_step), function_of, _), new in zip(names["places"], names["places_by_name"]):
         places[plain(old)] = new
-        if step:
+        if function_of:
+            called[new_step] = function_of
+        # A step that Rattle names by a number is not cited by its place; a variable's field has that spelling too.
+        if step and not (re.fullmatch(re.escape(step) + r"-\d+", new_step)):
             steps[plain(step)] = new_step
     loops = {plain(old): (new, live) for ((old, new), live) in names["loops"]}
     changed = names["changed"]
@@ -131,6 +135,15 @@ def convert(path, names, crate, function):
         # 2. Steps, behind a dot.
         part = part.replace(".type-inv", ".type_inv")
         part = re.sub(r"\.([a-z_][\w'-]*)", lambda k: "." + steps[plain(k[1])] if plain(k[1]) in steps and k[1] not in ("before", "args") else k[0], part)
+        def last(k):
+            params = names["params"].get(called.get(k[1], ""), [])
+            at = k[2].count(".1")
+            if at >= len(params):
+                return k[0]
+            return f".{k[1]}.new.{params[at]}"
+
+        part = re.sub(r"\.([\w'-]+)\.new((?:\.1)*)\.0(?![\w.])", last, part)
+        part = re.sub(r"\.([\w'-]+)\.new((?:\.1)*)\.0(?=\.)", last, part)
         for new in requires:
             part = re.sub(rf"(?m)^({re.escape(new)} \w+(?: \w+)*?) κs =", r"\1 =", part)
         if re.search(r"\bκs\b", part):
@@ -155,6 +168,8 @@ def convert(path, names, crate, function):
         keep.append(line)
     module = function.replace("/", ".")
     places_line = f"use Rattle.{crate}.proofs.{module}.Goals.{{{', '.join(sorted(brought))}}}\n" if brought else ""
+    if any("{w = w64}" in part for part in out) and not any(re.search(r"\bw64\b", l) for l in keep):
+        keep = [*[l for l in keep if l.strip()], "use mir.Syntax.{w64}"]
     answers = "\n".join(keep).rstrip("\n") + f"\nuse Rattle.{crate}.proofs.{module}.Goals as goal\n" + places_line + "\n" + "\n\n".join(out) + "\n" if out else None
     invariants = None
     if inv:
