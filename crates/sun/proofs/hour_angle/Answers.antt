@@ -3,13 +3,12 @@ use Rattle.std.proofs.Common.{◌≡◌, ℕ, suc, ◌+◌, ◌-◌, ◌%◌, �
 use Rattle.integer.specs.Division.{mod_z}
 use Rattle.integer.proofs.Sizes.{cond_ind}
 use Rattle.sun.specs.Sun.{hour_angle}
-use Rattle.sun.proofs.hour_angle.Statement.{statement}
-use Rattle.sun.proofs.hour_angle.Tie as tie
+use Rattle.sun.proofs.hour_angle.Goals as goal
 
 -- half a turn off an angle is half a turn added to it
-half-turn : (ml part : ℕ) → ml < 2 ^ 32 → part < 2 ^ 32
+half_turn : (ml part : ℕ) → ml < 2 ^ 32 → part < 2 ^ 32
     → ((ml + 2 ^ 31) % 2 ^ 32 + part) % 2 ^ 32 ≡ mod_z (pos ml -ℤ pos (2 ^ 31) +ℤ pos part) (2 ^ 32)
-half-turn ml part h k =
+half_turn ml part h k =
     let whole = ((ml + 2 ^ 31) % 2 ^ 32 + part) % 2 ^ 32 in
     let short = suc (2 ^ 31 - suc ml) in
     cond_ind (ltb ml (2 ^ 31)) (negsuc (2 ^ 31 - suc ml)) (pos (ml - 2 ^ 31)) (λ z. whole ≡ mod_z (z +ℤ pos part) (2 ^ 32))
@@ -18,15 +17,11 @@ half-turn ml part h k =
     (λ u. let d = ltb→lt part short u in omega arith) (λ u. let d = nltb→le part short u in omega arith))
     (λ t. let b = nltb→le ml (2 ^ 31) t in omega arith)
 
-returns : tie.Need-returns
+pub returns : goal.returns
 unfolding hour_angle
 returns c =
     let s = c.before.before.before in
-    let p = c.before.part-turn in
+    let p = c.before.part_turn in
     let part_is = rw (to_z-of_z s.ranges.time) at p.ensures in
-    rw (c.wrapping-add-u322.ensures, c.before.before.wrapping-add-u32.ensures, ← part_is)
-    (half-turn s.args.mean-longitude p.result (search rules) (search rules))
-
-pub hour-angle-spec : {M : Type 1} → statement M
-hour-angle-spec =
-    tie.close (tie.spec (λ c κs. search rules) (λ c κs. search rules) (λ c κs. search rules) returns)
+    rw (c.wrapping_add_u32.ensures.value, c.before.before.wrapping_add_u32-opposite.ensures.value, ← part_is)
+    (half_turn s.args.mean_longitude p.result (search rules) (search rules))
