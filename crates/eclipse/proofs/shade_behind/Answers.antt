@@ -13,8 +13,8 @@ use Rattle.integer.proofs.TwosComplement.{read_within}
 use Rattle.eclipse.specs.Shade.{spread, umbra_radius, penumbra_radius, below_square, shade_behind}
 use Rattle.eclipse.specs.Contract.{RadiusBound, SpreadAt}
 use Rattle.eclipse.proofs.Bounds.{umbra_within, penumbra_within}
-use Rattle.eclipse.proofs.shade_behind.Statement.{statement}
-use Rattle.eclipse.proofs.shade_behind.Tie as tie
+use Rattle.eclipse.proofs.shade_behind.Goals as goal
+use Rattle.eclipse.proofs.shade_behind.Goals.{After-below_square, After-below_square-2}
 
 -- a radius from its spread, with the numbers as they are read back
 module _ (radius : ℤ → ℤ) (within : (s : ℤ) → Within (2 ^ 24) s → RadiusBound (radius s)) where
@@ -34,45 +34,29 @@ umbra s = pos 6_378_000 -ℤ s
 abbrev penumbra : ℤ → ℤ
 penumbra s = pos 6_378_000 +ℤ s
 
-dark_is : (c : tie.After-below-square) → let a = c.before.before.args in c.below-square.result ≡ below_square a.squared-side (umbra_radius a.depth)
+dark_is : (c : After-below_square) → let a = c.args in c.below_square.result ≡ below_square a.squared_side (umbra_radius a.depth)
 unfolding umbra_radius
 dark_is c =
-    let f = c.before.before.ranges in
-    told umbra umbra_within f.depth f.squared-side c.before.spread.ensures c.below-square.ensures
+    let f = c.ranges in
+    told umbra umbra_within f.depth f.squared_side c.spread-umbra.ensures c.below_square.ensures
 
-part_is : (c : tie.After-below-square2) → let a = c.before.before.before.before.before.args in
-    c.below-square2.result ≡ below_square a.squared-side (penumbra_radius a.depth)
+part_is : (c : After-below_square-2) → let a = c.args in
+    c.below_square-2.result ≡ below_square a.squared_side (penumbra_radius a.depth)
 unfolding penumbra_radius
 part_is c =
-    let f = c.before.before.before.before.before.ranges in
-    told penumbra penumbra_within f.depth f.squared-side c.before.spread2.ensures c.below-square2.ensures
+    let f = c.ranges in
+    told penumbra penumbra_within f.depth f.squared_side c.spread-penumbra.ensures c.below_square-2.ensures
 
-returns : tie.Need-returns
+pub returns-then-below_square : goal.returns-then-below_square
 unfolding shade_behind
-returns c = rw (← (dark_is c.before), c.if1.true)
+returns-then-below_square c = rw (← (dark_is (goal.at.returns-then-below_square c).After-below_square), c.if-below_square.true)
 
-returns-2 : tie.Need-returns-2
+pub returns-then-below_square-2 : goal.returns-then-below_square-2
 unfolding shade_behind
-returns-2 c =
-    let i = c.before.before.before in
-    rw (← (dark_is i.before), i.if1.false, ← (part_is c.before), c.if2.true)
+returns-then-below_square-2 c =
+    rw (← (dark_is (goal.at.returns-then-below_square-2 c).After-below_square), c.if-below_square.false, ← (part_is (goal.at.returns-then-below_square-2 c).After-below_square-2), c.if-below_square-2.true)
 
-returns-3 : tie.Need-returns-3
+pub returns : goal.returns
 unfolding shade_behind
-returns-3 c =
-    let i = c.before.before.before in
-    rw (← (dark_is i.before), i.if1.false, ← (part_is c.before), c.if2.false)
-
-pub shade-behind-spec : {M : Type 1} → statement M
-shade-behind-spec =
-    tie.close
-    (tie.spec
-    (λ c κs. search rules)
-    (λ c. fits umbra umbra_within c.spread.ensures.small)
-    (λ c κs. bound umbra umbra_within c.spread.ensures.small)
-    returns
-    (λ c κs. search rules)
-    (λ c. fits penumbra penumbra_within c.spread2.ensures.small)
-    (λ c κs. bound penumbra penumbra_within c.spread2.ensures.small)
-    returns-2
-    returns-3)
+returns c =
+    rw (← (dark_is (goal.at.returns c).After-below_square), c.if-below_square.false, ← (part_is (goal.at.returns c).After-below_square-2), c.if-below_square-2.false)

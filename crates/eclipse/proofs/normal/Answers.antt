@@ -14,52 +14,49 @@ use Rattle.sun.proofs.Bounds.{within_scaled}
 use Rattle.sun.proofs.Components.{same_direction}
 use Rattle.eclipse.specs.Elevation.{normal_of}
 use Rattle.eclipse.proofs.SolarElevation.{normal_at}
-use Rattle.eclipse.proofs.normal.Statement.{statement}
-use Rattle.eclipse.proofs.normal.Tie as tie
+use Rattle.eclipse.proofs.normal.Goals as goal
+use Rattle.eclipse.proofs.normal.Goals.{After-scaled-2}
 
-scaled-requires : tie.Need-scaled-requires
-scaled-requires c κs =
-    let p = c.before.before.requires in
+pub scaled-requires : goal.scaled-requires
+scaled-requires c =
+    let p = c.requires in
     let i = p.0.sine_within in
     let n = p.1.sine_within in
     rw (read_within i tt, read_within n tt) (within_more (within_mul i n) (lit≤ tt))
 
-scaled-requires-2 : tie.Need-scaled-requires-2
-scaled-requires-2 c κs =
-    let p = c.before.before.before.before.requires in
+pub scaled-requires-2 : goal.scaled-requires-2
+scaled-requires-2 c =
+    let p = c.requires in
     let i = p.0.sine_within in
     let n = p.1.cosine_within in
     rw (read_within i tt, read_within n tt) (within_more (within_mul i n) (lit≤ tt))
 
-y-is : (c : tie.After-scaled2) → let a = c.before.before.before.before.before.args in
-    to_z w64 (of_z w64 c.scaled2.result) ≡ scaled (S a.inclination.angle) (C a.node.angle)
-y-is c =
-    let p = c.before.before.before.before.before.requires in
+y_is : (c : After-scaled-2) → let a = c.args in
+    to_z w64 (of_z w64 c.scaled-2.result) ≡ scaled (S a.inclination.angle) (C a.node.angle)
+y_is c =
+    let p = c.requires in
     let i = p.0 in
     let n = p.1 in
-    read_back c.scaled2.result c.scaled2.type-inv
-    ∙ rw (read_within i.sine_within tt, read_within n.cosine_within tt, i.sine_is, n.cosine_is) at c.scaled2.ensures
+    read_back c.scaled-2.result c.scaled-2.type_inv
+    ∙ rw (read_within i.sine_within tt, read_within n.cosine_within tt, i.sine_is, n.cosine_is) at c.scaled-2.ensures
 
-sub-t6 : tie.Need-overflow-sub-t6
-sub-t6 c =
-    rw (y-is c)
+pub overflow_sub-result : goal.overflow_sub-result
+overflow_sub-result c =
+    rw (y_is c)
     (sfits_within (within_sub (within_pos {a = 0} {n = 0} (lit≤ tt)) (within_scaled (S-within _) (C-within _))) tt)
 
-returns : tie.Need-returns
+pub returns : goal.returns
 unfolding normal_of
 returns c =
-    let p = c.before.before.before.before.before.before.requires in
+    let p = c.requires in
     let i = p.0 in
     let n = p.1 in
-    let x = c.before.before.before.scaled in
+    let x = c.scaled in
     normal_at
     _
     _
     (same_direction
-    (read_back x.result x.type-inv
+    (read_back x.result x.type_inv
     ∙ rw (read_within i.sine_within tt, read_within n.sine_within tt, i.sine_is, n.sine_is) at x.ensures)
-    (rw (to_z-of_z (sub-t6 c.before), y-is c.before) (+ℤ_idl _))
+    (rw (to_z-of_z (overflow_sub-result (goal.at.returns c).After-scaled-2), y_is (goal.at.returns c).After-scaled-2) (+ℤ_idl _))
     (read_within i.cosine_within tt ∙ i.cosine_is))
-
-pub normal-spec : {M : Type 1} → statement M
-normal-spec = tie.close (tie.spec scaled-requires scaled-requires-2 sub-t6 returns)
