@@ -90,7 +90,7 @@ def convert(path, names, crate, function):
                     looks.append(f"no goal for {m[1]} : Need-{m[2]}")
                     new = "NOGOAL-" + m[2]
                 new_names[m[1]] = new
-                if new.endswith("-requires"):
+                if re.search(r"-requires(-|$)", new):
                     requires.add(new)
     out, inv, brought = [], [], set()
     for part in parts:
@@ -134,7 +134,14 @@ def convert(path, names, crate, function):
             looks.append("no place " + w)
         # 2. Steps, behind a dot.
         part = part.replace(".type-inv", ".type_inv")
+        part = re.sub(r"\.(args|ranges|fits)\.([a-z][\w'-]*)", lambda k: f".{k[1]}.{snake(k[2])}", part)
+        part = re.sub(r"\.fits\.(?=[a-z])", ".ranges.", part)
+        part = re.sub(r"\.pre(?![\w'-])", ".requires", part)
+        if "in-range" in steps:
+            part = part.replace(".is_in_range", "." + steps["in-range"])
         part = re.sub(r"\.([a-z_][\w'-]*)", lambda k: "." + steps[plain(k[1])] if plain(k[1]) in steps and k[1] not in ("before", "args") else k[0], part)
+        part = re.sub(r"(\.wrapping_[\w'-]+\.ensures)(?!\.value)", r"\1.value", part)
+
         def last(k):
             params = names["params"].get(called.get(k[1], ""), [])
             at = k[2].count(".1")

@@ -17,13 +17,13 @@ const SIZE_24: usize = 24;
 pub const LONGEST: usize = SIZE_24;
 
 // The trailer, by its bytes: the one of 24 has the dark counts.
-#[derive(Drop)]
+#[derive(Clone, Copy)]
 pub enum Form {
     Bytes16,
     Bytes24,
 }
 
-#[derive(Drop)]
+#[derive(Clone, Copy)]
 pub struct Counts {
     pub labels: u32,
     pub training: u32,
@@ -32,7 +32,7 @@ pub struct Counts {
     pub dark_test: u32,
 }
 
-#[derive(Drop)]
+#[derive(Clone, Copy)]
 pub enum TrailerReading {
     Allowed(Form, Counts),
     Refused,
