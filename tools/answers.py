@@ -78,6 +78,48 @@ def convert(path, names, crate, function):
                 return needs[x]
         return None
 
+    parent = {plain(old): up and plain(up) for (old, up, _, _, _) in names["places"]}
+    at_goal = {new: plain(old_place) for (_, new), (old_place, _) in zip(names["needs"], names["asked_at"])}
+
+    def walk(place, n):
+        while n and place:
+            place, n = parent.get(place), n - 1
+        return place
+
+    def by_name(part, root, place, where):
+        """Facts of earlier places named on the root itself, and earlier places by `goal.at`."""
+        held = {root: place}
+        # A place bound by a `let`.
+        while True:
+            m = re.search(r"let ([\w']+) = (" + "|".join(map(re.escape, held)) + r")((?:\.before)*) in[ \n]\s*", part)
+            if not m:
+                break
+            to = walk(held[m[2]], m[3].count(".before"))
+            if to is None or m[1] in held:
+                looks.append(f"a let of a place: {m[0].strip()}")
+                part = part[: m.start()] + "let\u200b" + part[m.start() + 3 :]
+                continue
+            held[m[1]] = to
+            part = part[: m.start()] + part[m.end() :]
+        part = part.replace("let\u200b", "let")
+
+        def one(m):
+            to = walk(held[m[1]], m[2].count(".before"))
+            if to is None:
+                looks.append(f"a place: {m[0]}")
+                return m[0]
+            if m[3]:
+                return root + m[3]
+            if to == place:
+                return root
+            brought.add(places[to])
+            if where in places.values():
+                brought.add(where)
+            return f"(goal.at.{where} {root}).{places[to]}"
+
+        first = part.find("=", part.find("\n" + where if False else "\n"))
+        return re.sub(r"(?<![\w'.-])(" + "|".join(map(re.escape, held)) + r")((?:\.before)*)(\.(?!before)[a-z_0-9][\w'-]*)?(?![\w'-])(?= |\.|\)|,|;|$|\n)", one, part)
+
     # 1. The names of the answers.
     new_names = {}
     requires = set()
@@ -124,12 +166,37 @@ def convert(path, names, crate, function):
             part = re.sub(rf"(?<![\w'.·-]){re.escape(old)}(?![\w'-])", new, part)
         for new in new_names.values():
             part = re.sub(rf"(?m)^{re.escape(new)} : ", f"pub {new} : ", part)
+        # 2. Places.
+        m = re.search(r"(?m)^(?:pub )?(\S+) : goal\.", part)
+        if m and m[1] in at_goal:
+            lhs = re.search(rf"(?m)^{re.escape(m[1])} ((?:\w+ )*?)(\w+)(?: κs)? =", part)
+            if lhs:
+                head_end = part.find("=", lhs.start()) + 1
+                part = part[:head_end] + by_name(part[head_end:], lhs[2], at_goal[m[1]], m[1])
+        else:
+            m = re.search(r"(?m)^(?:abbrev )?(\S+) : (?:\{[^}]*\} → )?\((\w+) : tie\.([\w'-]+)\)|^(?:abbrev )?(\S+) : ()tie\.([\w'-]+) →", part)
+            if m:
+                name, var, old_place = m[1] or m[4], m[2], plain(m[3] or m[6])
+                lhs = re.search(rf"(?m)^{re.escape(name)} (\w+)", part)
+                if old_place in places and lhs:
+                    if re.search(r"→ tie\.", part.split("\n" + name)[0]):
+                        looks.append(f"gives a place: {name}")
+                    else:
+                        cut = part.find("\n", part.find(name)) if not var else part.find(")", part.find("tie.")) + 1
+                        body = part[cut:]
+                        if var and var != lhs[1]:
+                            looks.append(f"two names of a place: {name}")
+                        head_of = part[:cut]
+                        body = by_name(body, lhs[1], old_place, places[old_place])
+                        part = head_of + body
+
         def place(k):
             new = places.get(plain(k[1]), "NOPLACE-" + k[1])
             brought.add(new)
             return new
 
         part = re.sub(r"tie\.(\w[\w'-]*)", place, part)
+        # 3. Steps.
         for w in re.findall(r"NOPLACE-(\S+)", part):
             looks.append("no place " + w)
         # 2. Steps, behind a dot.
@@ -140,6 +207,8 @@ def convert(path, names, crate, function):
         if "in-range" in steps:
             part = part.replace(".is_in_range", "." + steps["in-range"])
         part = re.sub(r"\.([a-z_][\w'-]*)", lambda k: "." + steps[plain(k[1])] if plain(k[1]) in steps and k[1] not in ("before", "args") else k[0], part)
+        of_rattle = set(steps.values()) | set(places.values()) | set(new_names.values()) | {"new", "ensures", "requires"}
+        part = re.sub(r"(?<!goal\.at)(?<!goal)\.([a-z][\w]*(?:-[\w']+)+)", lambda k: k[0] if k[1] in of_rattle or k[1].startswith(("invariant-", "decreases-", "iterator-")) else "." + snake(k[1]), part)
         part = re.sub(r"(\.wrapping_[\w'-]+\.ensures)(?!\.value)", r"\1.value", part)
 
         def last(k):

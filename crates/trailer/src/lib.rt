@@ -160,6 +160,7 @@ pub fn find(last: &[u8], size: u64) -> TrailerReading
 }
 
 // Whoever writes a file has tested its room and the number of its labels by then.
+#[tactic(auto, unfolding(crate::specs::Trailer::trailer_size))]
 pub fn write_trailer(counts: Counts, out: &mut [u8], at: usize)
     requires { (at + trailer_size Bytes24 ≤ length out.old) × (counts.labels ≤ 1_024) }
     ensures { out.new ≡ sets out.old at (trailer_bytes Bytes24 counts) }
