@@ -8,14 +8,14 @@ ghost use Rattle.extreme.specs.Extremes.{ahead, keep, is_of};
 use telemetry::float;
 
 // Which extreme: lesser numbers go ahead, or greater ones.
-#[derive(Drop)]
+#[derive(Clone, Copy)]
 pub enum Kind {
     Least,
     Greatest,
 }
 
 // The least or the greatest number, where there are any.
-#[derive(Drop)]
+#[derive(Clone, Copy)]
 pub enum Extreme {
     Nothing,
     Held(f32),

@@ -14,7 +14,7 @@ mod rules;
 
 pub const SIZE: usize = 24;
 
-#[derive(Drop)]
+#[derive(Clone, Copy)]
 pub struct Label {
     pub time: i64,
     pub revolution: i32,
@@ -24,7 +24,7 @@ pub struct Label {
     pub elevation: i32,
 }
 
-#[derive(Drop)]
+#[derive(Clone, Copy)]
 pub enum Decoded {
     Accepted(Label),
     Broken,

@@ -17,13 +17,13 @@ const SIZE_24: usize = 24;
 pub const LONGEST: usize = SIZE_24;
 
 // The trailer, by its bytes: the one of 24 has the dark counts.
-#[derive(Drop)]
+#[derive(Clone, Copy)]
 pub enum Form {
     Bytes16,
     Bytes24,
 }
 
-#[derive(Drop)]
+#[derive(Clone, Copy)]
 pub struct Counts {
     pub labels: u32,
     pub training: u32,
@@ -32,7 +32,7 @@ pub struct Counts {
     pub dark_test: u32,
 }
 
-#[derive(Drop)]
+#[derive(Clone, Copy)]
 pub enum TrailerReading {
     Allowed(Form, Counts),
     Refused,
@@ -160,6 +160,7 @@ pub fn find(last: &[u8], size: u64) -> TrailerReading
 }
 
 // Whoever writes a file has tested its room and the number of its labels by then.
+#[tactic(auto, unfolding(crate::specs::Trailer::trailer_size))]
 pub fn write_trailer(counts: Counts, out: &mut [u8], at: usize)
     requires { (at + trailer_size Bytes24 ≤ length out.old) × (counts.labels ≤ 1_024) }
     ensures { out.new ≡ sets out.old at (trailer_bytes Bytes24 counts) }
