@@ -12,7 +12,7 @@ use refusal::Refusal;
 // mean motion in 10^-8 revolutions a day, the drift rates of the node and of the argument of perigee in
 // 10^-4 degree a day, the epoch in seconds from 1990 Jan 0.0, half the first derivative of the mean
 // motion, as two-line elements have it, in 10^-8 revolutions a day squared.
-#[derive(Drop)]
+#[derive(Clone, Copy)]
 pub struct Elements {
     pub eccentricity: u32,
     pub semi_major_axis: u32,
@@ -36,6 +36,7 @@ pub enum Verdict {
 
 impl Verdict {
     // The first refusal stands.
+    #[tactic(auto, unfolding(crate::specs::Elements::refuse_if))]
     fn refuse_if(self, fails: bool, refusal: Refusal) -> Verdict
         ensures { result ≡ refuse_if self fails refusal }
     {
@@ -58,6 +59,7 @@ fn outside(x: u32, low: u32, high: u32) -> bool
     x < low || high < x
 }
 
+#[tactic(auto, unfolding(crate::specs::Elements::perigee_below))]
 fn perigee_below(a: u32, e: u32) -> bool
     ensures { result ≡ perigee_below a e }
 {
@@ -85,6 +87,7 @@ fn derivative_beyond(mean_motion: u32, half_derivative: i32) -> bool
 }
 
 // Refusals 1 to 7, then 16, then 8 for the epoch.
+#[tactic(auto, unfolding(crate::specs::Elements::checked, crate::specs::Elements::checked_to7))]
 pub fn check(elements: Elements) -> Verdict
     ensures { result ≡ checked elements }
 {
@@ -112,6 +115,7 @@ pub fn check(elements: Elements) -> Verdict
         .refuse_if(!dated, Refusal::Time)
 }
 
+#[tactic(auto, unfolding(crate::specs::Time::times_refused))]
 fn times_refused(epoch: i64, time: i64) -> bool
     ensures { result ≡ times_refused epoch time }
 {
@@ -126,6 +130,7 @@ fn times_refused(epoch: i64, time: i64) -> bool
 
 // Whether a time is out of range, or too far from the epoch: 366 days, or 30 where the mean motion
 // changes. An epoch out of range is refused by `check`.
+#[tactic(auto, unfolding(crate::specs::Time::time_refused))]
 pub fn time_refused(elements: Elements, time: i64) -> bool
     ensures { result ≡ time_refused elements time }
 {
@@ -138,6 +143,7 @@ pub fn time_refused(elements: Elements, time: i64) -> bool
 }
 
 // Refusals 1 to 7 and 16 of the elements, then 8 for the epoch and the time.
+#[tactic(auto, unfolding(crate::specs::Time::checked_at))]
 pub fn check_at(elements: Elements, time: i64) -> Verdict
     ensures { result ≡ checked_at elements time }
 {
