@@ -29,7 +29,7 @@ const RADII_TOGETHER: i64 = 702_378_000;
 
 const MINUS_ONE: i64 = -ONE;
 
-#[derive(Drop)]
+#[derive(Clone, Copy)]
 pub enum ShadeAnswer {
     Shaded(Shade),
     Refused(Refusal),

@@ -34,7 +34,7 @@ pub fn magnitude(x: i64) -> u64
     if x < 0 { m + 1 } else { m }
 }
 
-#[derive(Drop)]
+#[derive(Clone, Copy)]
 pub struct FloorQuotient {
     pub quotient: i64,
     pub remainder: u64,
@@ -106,7 +106,7 @@ pub fn i32_of_bits(b: u32) -> i32
 }
 
 // The whole square root of a number's highest bits, and what the root's square leaves of them.
-#[derive(Drop)]
+#[derive(Clone, Copy)]
 struct PartialRoot {
     root: u64,
     remainder: u64,

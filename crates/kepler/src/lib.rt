@@ -19,13 +19,13 @@ const UNIT: u64 = 10_000_000;
 const HALVINGS: u64 = 32;
 
 // An eccentric anomaly, with the number of halvings made.
-#[derive(Drop)]
+#[derive(Clone, Copy)]
 pub struct Anomaly {
     pub angle: u32,
     pub halvings: u32,
 }
 
-#[derive(Drop)]
+#[derive(Clone, Copy)]
 pub enum Solution {
     Solved(Anomaly),
     Refused(Refusal),

@@ -9,7 +9,7 @@ use crate::UNIT;
 use trig::ONE;
 
 // k is at most m up to the angle `from`, and above m from the angle `to` on.
-#[derive(Drop)]
+#[derive(Clone, Copy)]
 pub struct Window {
     pub from: u64,
     pub to: u64,

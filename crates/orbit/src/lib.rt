@@ -19,7 +19,7 @@ use trig::Sines;
 
 // Where a satellite is at a time: the revolution, the mean anomaly, the eccentric anomaly with its
 // halvings, the celestial position and the radius in metres, and the node as drifted.
-#[derive(Drop)]
+#[derive(Clone, Copy)]
 pub struct State {
     pub revolution: i32,
     pub mean_anomaly: u32,
@@ -29,14 +29,14 @@ pub struct State {
     pub node: u32,
 }
 
-#[derive(Drop)]
+#[derive(Clone, Copy)]
 pub enum Placement {
     Placed(State),
     Refused(Refusal),
 }
 
 // What all times share of an orbit: the ratio of its axes, in units of 2^-30, and its inclination.
-#[derive(Drop)]
+#[derive(Clone, Copy)]
 pub struct Plane {
     pub minor_axis: u32,
     pub inclination: Sines,

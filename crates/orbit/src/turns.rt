@@ -21,7 +21,7 @@ use trig::{Sines, TURN};
 
 // The phase of an orbit: the mean anomaly, the argument of perigee as drifted, and the number of the
 // revolution.
-#[derive(Drop)]
+#[derive(Clone, Copy)]
 pub struct Phase {
     pub mean_anomaly: u32,
     pub argument_of_perigee: u32,

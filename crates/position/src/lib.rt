@@ -11,7 +11,7 @@ ghost use Rattle.position.specs.Turn.{turned_xy, turned_yz, earth_fixed_of};
 use integer::ONE;
 use trig::Sines;
 
-#[derive(Drop)]
+#[derive(Clone, Copy)]
 pub struct Position {
     pub x: i64,
     pub y: i64,
@@ -19,7 +19,7 @@ pub struct Position {
 }
 
 // Two components of a position that are turned together.
-#[derive(Drop)]
+#[derive(Clone, Copy)]
 struct Pair {
     first: i64,
     second: i64,

@@ -4,7 +4,7 @@
 ghost use Rattle.std.specs.Prelude.{◌≡◌};
 ghost use Rattle.shade.specs.Codes.{shade_code};
 
-#[derive(Drop)]
+#[derive(Clone, Copy)]
 pub enum Shade {
     Lit,
     // In the umbra.

@@ -33,7 +33,7 @@ const OBLIQUITY_COSINE: i64 = 985_129_105;
 const OBLIQUITY_SINE: i64 = 427_132_473;
 
 // A direction in the celestial frame, in units of 2^-30.
-#[derive(Drop)]
+#[derive(Clone, Copy)]
 pub struct Direction {
     pub x: i64,
     pub y: i64,
@@ -41,7 +41,7 @@ pub struct Direction {
 }
 
 // Angles, and the direction to the Sun.
-#[derive(Drop)]
+#[derive(Clone, Copy)]
 pub struct Sun {
     // MA
     pub mean_anomaly: u32,
@@ -54,7 +54,7 @@ pub struct Sun {
     pub direction: Direction,
 }
 
-#[derive(Drop)]
+#[derive(Clone, Copy)]
 pub enum SunAnswer {
     Found(Sun),
     Refused(Refusal),

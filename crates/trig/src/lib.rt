@@ -15,7 +15,7 @@ pub const HALF_TURN: u64 = 0x8000_0000;
 pub const TURN: u64 = 0x1_0000_0000;
 
 // An angle with its sine and its cosine, for where these are needed more than once.
-#[derive(Drop)]
+#[derive(Clone, Copy)]
 pub struct Sines {
     pub angle: u32,
     pub sine: i64,
