@@ -12,38 +12,33 @@ use Rattle.integer.specs.Bound.{Within}
 use Rattle.integer.proofs.Bounds.{within_pos, within_mul, within_more, sfits_within}
 use Rattle.orbit.specs.Turns.{linear_term}
 use Rattle.orbit.proofs.AdvanceAndDrift.{linear_floor, linear_within}
-use Rattle.orbit.proofs.turns.linear_term.Statement.{statement}
-use Rattle.orbit.proofs.turns.linear_term.Tie as tie
+use Rattle.orbit.proofs.turns.linear_term.Goals as goal
+use Rattle.orbit.proofs.turns.linear_term.Goals.{Start}
 
 -- n·Δ
-abbrev motion : tie.Start → ℤ
+abbrev motion : Start → ℤ
 motion c = pos c.args.mean_motion *ℤ c.args.elapsed
 
-mul-floor-scaled : tie.Need-overflow-mul-floor-scaled
-mul-floor-scaled c =
+pub overflow_mul-mean_motion : goal.overflow_mul-mean_motion
+overflow_mul-mean_motion c =
     rw (to_z_pos w64 {n = c.args.mean_motion} (omega arith), to_z-of_z c.ranges.elapsed)
     (sfits_within (within_mul (within_pos c.requires.0) c.requires.1) tt)
 
 -- the product that the code scales
-motion-is : (c : tie.Start) → to_z w64 (of_z w64 (to_z w64 c.args.mean_motion *ℤ to_z w64 (of_z w64 c.args.elapsed))) ≡ motion c
-motion-is c =
-    to_z-of_z (mul-floor-scaled c) ∙ rw (to_z_pos w64 {n = c.args.mean_motion} (omega arith), to_z-of_z c.ranges.elapsed)
+motion_is : (c : Start) → to_z w64 (of_z w64 (to_z w64 c.args.mean_motion *ℤ to_z w64 (of_z w64 c.args.elapsed))) ≡ motion c
+motion_is c =
+    to_z-of_z (overflow_mul-mean_motion c) ∙ rw (to_z_pos w64 {n = c.args.mean_motion} (omega arith), to_z-of_z c.ranges.elapsed)
 
-small : (c : tie.Start) → Within (8000 * 4294967296) (linear_term c.args.mean_motion c.args.elapsed)
+small : (c : Start) → Within (8000 * 4294967296) (linear_term c.args.mean_motion c.args.elapsed)
 small c = linear_within _ _ c.requires.0 c.requires.1
 
-floor-scaled-requires : tie.Need-floor-scaled-requires
-floor-scaled-requires c κs =
-    rw (motion-is c)
+pub floor_scaled-requires : goal.floor_scaled-requires
+floor_scaled-requires c =
+    rw (motion_is c)
     (record { divisor = lit< tt; remainders = lit≤ tt; answer = within_more (rw (linear_floor _ _) at (small c)) (lit≤ tt) })
 
-returns : tie.Need-returns
+pub returns : goal.returns
 returns c =
-    let s = c.before in
     let r = c.floor_scaled in
-    let e = to_z-of_z (record { sfits = r.type-inv }) ∙ rw (motion-is s) at r.ensures ∙ sym (linear_floor _ _) in
-    (e, rw e (small s))
-
-pub linear-term-spec : {M : Type 1} → statement M
-linear-term-spec =
-    tie.close (tie.spec (λ c. search rules) mul-floor-scaled floor-scaled-requires returns)
+    let e = to_z-of_z {w = w64} (record { sfits = r.type_inv }) ∙ rw (motion_is (goal.at.returns c).Start) at r.ensures ∙ sym (linear_floor _ _) in
+    (e, rw e (small (goal.at.returns c).Start))
