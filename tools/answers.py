@@ -120,6 +120,30 @@ def convert(path, names, crate, function):
         first = part.find("=", part.find("\n" + where if False else "\n"))
         return re.sub(r"(?<![\w'.-])(" + "|".join(map(re.escape, held)) + r")((?:\.before)*)(\.(?!before)[a-z_0-9][\w'-]*)?(?![\w'-])(?= |\.|\)|,|;|$|\n)", one, part)
 
+    # A function from a place to an earlier one is a name for some `.before`.
+    ways = {}
+    kept_parts = []
+    for part in parts:
+        m = re.match(r"(?:--[^\n]*\n)*abbrev (\S+) : tie\.\S+ → tie\.\S+\n(\S+) (\w+) = (\w+)((?:\.before)+)$", part.rstrip())
+        if m and m[3] == m[4]:
+            ways[m[1]] = m[5]
+        else:
+            kept_parts.append(part)
+    parts = kept_parts
+    if ways:
+        word = "|".join(sorted(map(re.escape, ways), key=len, reverse=True))
+        applied = re.compile(rf"\((?:{word}) (\w[\w']*(?:\.before)*)\)|(?<![\w'.-])(?:{word}) (\w[\w']*(?:\.before)*)(?![\w'])")
+        def unfold(m):
+            name = re.match(rf"\(?({word}) ", m[0])[1]
+            return (m[1] or m[2]) + ways[name]
+        for i, part in enumerate(parts):
+            while True:
+                turned = applied.sub(unfold, part)
+                if turned == part:
+                    break
+                part = turned
+            parts[i] = part
+
     # 1. The names of the answers.
     new_names = {}
     requires = set()
