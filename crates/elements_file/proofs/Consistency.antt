@@ -20,7 +20,7 @@ use Rattle.digit.specs.Digit.{is_digit}
 use Rattle.elements_file.specs.Numbers.{is_rate, is_epoch, largest, grown, takes_minus, signed_of}
 use Rattle.elements_file.specs.Lines.{refused, named, counted, valued, begun, within}
 use Rattle.elements_file.specs.Fields.{stored}
-use Rattle.elements_file.specs.Reading.{start, at, ended, step, after_bytes, concluded, parsed}
+use Rattle.elements_file.specs.Reading.{start, ended, step, after_bytes, concluded, parsed}
 use Rattle.elements.specs.Contract.{Held}
 use Rattle.elements_file.specs.Contract.{NameAt, Fitting, Consistent, InBounds}
 use Rattle.elements_file.specs.declared.Progress.{Progress}

@@ -30,6 +30,7 @@ fn epoch(here: bool, number: i64, other: i64) -> i64
 
 // The number is that of the element, counted from 0 in the order of the file, which holds it: lines are
 // read so far only.
+#[tactic(auto, unfolding(crate::specs::Fields::stored))]
 pub(crate) fn stored(elements: Elements, element: u32, number: Number) -> Elements
     requires { number.magnitude ≤ largest element number.negative }
     ensures { result ≡ stored elements element number }

@@ -15,7 +15,7 @@ use line::Place;
 use number::Number;
 
 // What a file breaks.
-#[derive(Drop)]
+#[derive(Clone, Copy)]
 pub enum Fault {
     // The line does not begin with the name of the element that is due, and a space.
     Name,
@@ -43,7 +43,7 @@ pub enum Parsed {
 
 // How far a file has been read: the line from 1, how many elements have been read, what the line holds so
 // far, and the elements.
-#[derive(Drop)]
+#[derive(Clone, Copy)]
 struct Progress {
     line: usize,
     element: u32,
@@ -51,6 +51,7 @@ struct Progress {
     elements: Elements,
 }
 
+#[tactic(auto, unfolding(crate::specs::Reading::start))]
 fn start() -> Progress
     ensures { result ≡ start }
 {
@@ -114,6 +115,7 @@ fn next_element(s: Progress, number: Number) -> Progress
     }
 }
 
+#[tactic(auto, unfolding(crate::specs::Reading::ended))]
 fn ended(s: Progress) -> Progress
     requires { Consistent 65_534 s }
     ensures { result ≡ ended s.place s }
@@ -134,6 +136,7 @@ fn ended(s: Progress) -> Progress
     }
 }
 
+#[tactic(auto, unfolding(crate::specs::Reading::step))]
 fn step(s: Progress, byte: u8) -> Progress
     requires { Consistent 65_534 s }
     ensures { result ≡ step s byte }
@@ -145,6 +148,7 @@ fn step(s: Progress, byte: u8) -> Progress
     at(s, line::within(place, s.element, byte))
 }
 
+#[tactic(auto, unfolding(crate::specs::Reading::concluded))]
 fn finished(s: Progress) -> Parsed
     ensures { result ≡ concluded s.place s }
 {
@@ -166,6 +170,7 @@ fn finished(s: Progress) -> Parsed
 }
 
 // The elements that a file's bytes give, or its first fault.
+#[tactic(auto, unfolding(crate::specs::Reading::parsed))]
 pub fn parse(text: &[u8]) -> Parsed
     ensures { result ≡ parsed text.now }
 {

@@ -9,7 +9,7 @@ use crate::{Fault, name, number};
 
 // What a line holds so far: nothing, the beginning of a comment, that many bytes of the name that is due,
 // the name, its space and a beginning of a number, or a fault.
-#[derive(Drop)]
+#[derive(Clone, Copy)]
 pub enum Place {
     Start,
     Comment,
@@ -18,6 +18,7 @@ pub enum Place {
     Faulty(Fault),
 }
 
+#[tactic(auto, unfolding(crate::specs::Lines::refused))]
 fn refused(byte: u8, fault: Fault) -> Place
     ensures { result ≡ refused byte fault }
 {
@@ -27,6 +28,7 @@ fn refused(byte: u8, fault: Fault) -> Place
     Place::Faulty(fault)
 }
 
+#[tactic(auto, unfolding(crate::specs::Lines::named))]
 fn named(element: u32, k: usize, byte: u8) -> Place
     requires { NameAt element k }
     ensures { result ≡ named element k byte }
@@ -44,6 +46,7 @@ fn named(element: u32, k: usize, byte: u8) -> Place
     Place::Named(k + 1)
 }
 
+#[tactic(auto, unfolding(crate::specs::Lines::counted))]
 fn counted(element: u32, number: Number, digit: u64) -> Place
     requires { digit ≤ 9 }
     ensures { result ≡ counted element (grown number digit) }
@@ -59,6 +62,7 @@ fn counted(element: u32, number: Number, digit: u64) -> Place
     })
 }
 
+#[tactic(auto, unfolding(crate::specs::Lines::valued))]
 fn valued(element: u32, number: Number, byte: u8) -> Place
     ensures { result ≡ valued element number byte }
 {
@@ -81,6 +85,7 @@ fn valued(element: u32, number: Number, byte: u8) -> Place
     refused(byte, Fault::NotWhole)
 }
 
+#[tactic(auto, unfolding(crate::specs::Lines::begun))]
 fn begun(element: u32, byte: u8) -> Place
     requires { element ≤ 12 }
     ensures { result ≡ begun element byte }
@@ -96,6 +101,7 @@ fn begun(element: u32, byte: u8) -> Place
 
 // The line with a further byte that does not end it. The reader keeps the element and the place together,
 // which is what the `requires` asks.
+#[tactic(auto, unfolding(crate::specs::Lines::within))]
 pub(crate) fn within(place: Place, element: u32, byte: u8) -> Place
     requires { (element ≤ 12) × Fitting element place }
     ensures { result ≡ within place element byte }

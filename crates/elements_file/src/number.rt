@@ -3,7 +3,7 @@ ghost use Rattle.std.specs.Prelude.{◌≡◌, ◌≤◌};
 ghost use Rattle.elements_file.specs.Numbers.{is_rate, takes_minus, largest, signed_of};
 
 // A minus or none, whether a digit stands yet, and the digits' number.
-#[derive(Drop)]
+#[derive(Clone, Copy)]
 pub struct Number {
     pub negative: bool,
     pub digits: bool,
@@ -20,6 +20,7 @@ fn is_rate(element: u32) -> bool
 }
 
 // The largest magnitude that an element holds.
+#[tactic(auto, unfolding(crate::specs::Numbers::largest))]
 pub(crate) fn largest(element: u32, negative: bool) -> u64
     ensures { result ≡ largest element negative }
 {
@@ -40,6 +41,7 @@ pub(crate) fn largest(element: u32, negative: bool) -> u64
 
 impl Number {
     // Whether a minus may stand next.
+    #[tactic(auto, unfolding(crate::specs::Numbers::takes_minus))]
     pub(crate) fn takes_minus(self, element: u32) -> bool
         ensures { result ≡ takes_minus element self }
     {
@@ -57,6 +59,7 @@ impl Number {
 
     // The number with its sign. A number is read as far as its element holds it, and 64 bits hold every
     // element: this is what the `requires` asks.
+    #[tactic(auto, unfolding(crate::specs::Numbers::signed_of))]
     pub(crate) fn signed(self) -> i64
         requires { self.magnitude ≤ largest 10 self.negative }
         ensures { result ≡ signed_of self }

@@ -50,6 +50,7 @@ room_behind m d columns i b h l r =
     le_trans (digit_behind m d (columns - (i + 1)) l) (rw left at r)
 
 pub room_for_one : (m n b : ℕ) → 0 < n → (m + 1) * 10 ^ n ≤ b → (m + 1) * 10 ≤ b
+room_for_one m zero b l r = elim l [ ]
 room_for_one m (suc n) b l r =
     let one : 10 * 1 ≤ 10 * 10 ^ n = mul-le-mul_left 10 (one-le-pow n 10 (omega arith)) in
     le_trans (mul-le-mul_left (m + 1) (rw (← pow-succ' 10 n) at one)) r

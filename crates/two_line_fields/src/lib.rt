@@ -12,7 +12,7 @@ ghost use Rattle.two_line_fields.specs.Decimals.{byte_of, bad, digit_or_blank, l
 ghost use Rattle.two_line_fields.specs.Fields.{year_of, day_allowed, allowed, field_of, value_of, place_or};
 
 // The forms that fields have.
-#[derive(Drop)]
+#[derive(Clone, Copy)]
 pub enum Form {
     // A satellite number, or a revolution.
     Number,
@@ -194,6 +194,7 @@ fn width(stands: bool) -> u32
     if stands { 1 } else { 0 }
 }
 
+#[tactic(auto, unfolding(crate::specs::Decimals::decimal_of))]
 fn number_at(line: &[u8], column: u32, layout: Layout) -> Decimal
     requires { InLine column layout }
     ensures { result ≡ decimal_of line.now column layout }
@@ -215,6 +216,7 @@ fn number_at(line: &[u8], column: u32, layout: Layout) -> Decimal
 }
 
 // The year in line 1.
+#[tactic(auto, unfolding(crate::specs::Fields::year_of))]
 fn year(line: &[u8]) -> u64
     ensures { result ≡ year_of line.now }
 {
@@ -253,6 +255,7 @@ fn allowed(line: &[u8], form: Form, value: u64) -> bool
 }
 
 // What a field holds.
+#[tactic(auto, unfolding(crate::specs::Fields::field_of))]
 fn field(line: &[u8], column: u32, form: Form) -> Decimal
     requires { (1 ≤ column) × (column ≤ 69) }
     ensures { result ≡ field_of line.now (record { column = column; form = form }) }
@@ -273,6 +276,7 @@ pub fn value(line: &[u8], column: u32, form: Form) -> u64
 }
 
 // The place of a bad field, or else the one that follows; the columns ahead are those of the lines ahead.
+#[tactic(auto, unfolding(crate::specs::Fields::place_or))]
 pub fn place_or(ahead: u32, line: &[u8], column: u32, form: Form, later: u32) -> u32
     requires { (ahead ≤ 69) × (1 ≤ column) × (column ≤ 69) }
     ensures { result ≡ place_or ahead line.now (record { column = column; form = form }) later }
