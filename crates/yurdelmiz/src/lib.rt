@@ -1,4 +1,5 @@
-// The C interface, as include/yurdelmiz.h documents it: numbers and byte slices only.
+// The calls of the C interface, as include/yurdelmiz.h documents them: numbers and byte slices only. The
+// crate yurdelmiz_c exports them.
 #![tactic(auto)]
 
 ghost use Rattle.std.specs.Prelude.{◌≡◌};
@@ -31,22 +32,19 @@ const FORECAST: u32 = 1;
 // In place of a figure that a file's trailer does not hold: no file has as many labels.
 const NOT_HELD: u32 = 0xffff_ffff;
 
-#[unsafe(no_mangle)]
-pub extern "C" fn yurdelmiz_sine(angle: u32) -> i64
+pub fn yurdelmiz_sine(angle: u32) -> i64
     ensures { SineAt angle result }
 {
     trig::sine(angle)
 }
 
-#[unsafe(no_mangle)]
-pub extern "C" fn yurdelmiz_cosine(angle: u32) -> i64
+pub fn yurdelmiz_cosine(angle: u32) -> i64
     ensures { CosineAt angle result }
 {
     trig::cosine(angle)
 }
 
-#[unsafe(no_mangle)]
-pub extern "C" fn yurdelmiz_kepler(eccentricity: u32, mean_anomaly: u32, answer: &mut [u8]) -> u32
+pub fn yurdelmiz_kepler(eccentricity: u32, mean_anomaly: u32, answer: &mut [u8]) -> u32
     ensures { record { status = result; answer = answer.new } ≡ kepler_call eccentricity mean_anomaly answer.old }
 {
     if answer.len() != 8 {
@@ -62,8 +60,7 @@ pub extern "C" fn yurdelmiz_kepler(eccentricity: u32, mean_anomaly: u32, answer:
     }
 }
 
-#[unsafe(no_mangle)]
-pub extern "C" fn yurdelmiz_sun(time: i64, answer: &mut [u8]) -> u32
+pub fn yurdelmiz_sun(time: i64, answer: &mut [u8]) -> u32
     ensures { record { status = result; answer = answer.new } ≡ sun_call time answer.old }
 {
     if answer.len() != 28 {
@@ -79,8 +76,7 @@ pub extern "C" fn yurdelmiz_sun(time: i64, answer: &mut [u8]) -> u32
     }
 }
 
-#[unsafe(no_mangle)]
-pub extern "C" fn yurdelmiz_position(elements: &[u8], time: i64, answer: &mut [u8]) -> u32
+pub fn yurdelmiz_position(elements: &[u8], time: i64, answer: &mut [u8]) -> u32
     ensures { record { status = result; answer = answer.new } ≡ position_call elements.now time answer.old }
 {
     if elements.len() != 52 {
@@ -102,8 +98,7 @@ pub extern "C" fn yurdelmiz_position(elements: &[u8], time: i64, answer: &mut [u
     }
 }
 
-#[unsafe(no_mangle)]
-pub extern "C" fn yurdelmiz_shade(
+pub fn yurdelmiz_shade(
     x: i64,
     y: i64,
     z: i64,
@@ -133,8 +128,7 @@ pub extern "C" fn yurdelmiz_shade(
     }
 }
 
-#[unsafe(no_mangle)]
-pub extern "C" fn yurdelmiz_elements(text: &[u8], answer: &mut [u8]) -> u64
+pub fn yurdelmiz_elements(text: &[u8], answer: &mut [u8]) -> u64
     ensures { record { status = result; answer = answer.new } ≡ elements_call text.now answer.old }
 {
     if answer.len() != 52 {
@@ -153,8 +147,7 @@ pub extern "C" fn yurdelmiz_elements(text: &[u8], answer: &mut [u8]) -> u64
     }
 }
 
-#[unsafe(no_mangle)]
-pub extern "C" fn yurdelmiz_two_line(
+pub fn yurdelmiz_two_line(
     first: &[u8],
     second: &[u8],
     semi_major_axis: u32,
@@ -177,8 +170,7 @@ pub extern "C" fn yurdelmiz_two_line(
     }
 }
 
-#[unsafe(no_mangle)]
-pub extern "C" fn yurdelmiz_find_set(
+pub fn yurdelmiz_find_set(
     past: &[u8],
     past_size: usize,
     forecast: &[u8],
@@ -205,13 +197,7 @@ pub extern "C" fn yurdelmiz_find_set(
     }
 }
 
-#[unsafe(no_mangle)]
-pub extern "C" fn yurdelmiz_put_set(
-    elements: &[u8],
-    buffer: &mut [u8],
-    size: usize,
-    answer: &mut [u8],
-) -> u32
+pub fn yurdelmiz_put_set(elements: &[u8], buffer: &mut [u8], size: usize, answer: &mut [u8]) -> u32
     ensures { record { status = result; buffer = buffer.new; answer = answer.new } ≡ put_set_call elements.now buffer.old size answer.old }
 {
     if elements.len() != 52 || answer.len() != 8 {
@@ -227,8 +213,7 @@ pub extern "C" fn yurdelmiz_put_set(
     }
 }
 
-#[unsafe(no_mangle)]
-pub extern "C" fn yurdelmiz_label(elements: &[u8], telemetry: &[u8], output: &mut [u8]) -> u64
+pub fn yurdelmiz_label(elements: &[u8], telemetry: &[u8], output: &mut [u8]) -> u64
     ensures { record { status = result; answer = output.new } ≡ label_call elements.now telemetry.now output.old }
 {
     if elements.len() != 52 {
@@ -245,8 +230,7 @@ pub extern "C" fn yurdelmiz_label(elements: &[u8], telemetry: &[u8], output: &mu
     }
 }
 
-#[unsafe(no_mangle)]
-pub extern "C" fn yurdelmiz_add(
+pub fn yurdelmiz_add(
     elements: &[u8],
     buffer: &mut [u8],
     size: usize,
@@ -276,8 +260,7 @@ pub extern "C" fn yurdelmiz_add(
     }
 }
 
-#[unsafe(no_mangle)]
-pub extern "C" fn yurdelmiz_read(file: &[u8], size: usize, answer: &mut [u8]) -> u64
+pub fn yurdelmiz_read(file: &[u8], size: usize, answer: &mut [u8]) -> u64
     ensures { record { status = result; answer = answer.new } ≡ read_call file.now size answer.old }
 {
     if answer.len() != 24 {
@@ -293,8 +276,7 @@ pub extern "C" fn yurdelmiz_read(file: &[u8], size: usize, answer: &mut [u8]) ->
     }
 }
 
-#[unsafe(no_mangle)]
-pub extern "C" fn yurdelmiz_dark_test(tail: &[u8], size: u64, answer: &mut [u8]) -> u32
+pub fn yurdelmiz_dark_test(tail: &[u8], size: u64, answer: &mut [u8]) -> u32
     ensures { record { status = result; answer = answer.new } ≡ dark_test_call tail.now size answer.old }
 {
     if answer.len() != 4 {
@@ -314,8 +296,7 @@ pub extern "C" fn yurdelmiz_dark_test(tail: &[u8], size: u64, answer: &mut [u8])
     }
 }
 
-#[unsafe(no_mangle)]
-pub extern "C" fn yurdelmiz_scale(figures: &mut [u8], file: &[u8], size: usize) -> u64
+pub fn yurdelmiz_scale(figures: &mut [u8], file: &[u8], size: usize) -> u64
     ensures { record { status = result; answer = figures.new } ≡ scale_call figures.old file.now size }
 {
     if figures.len() != 48 {
@@ -332,8 +313,7 @@ pub extern "C" fn yurdelmiz_scale(figures: &mut [u8], file: &[u8], size: usize) 
     }
 }
 
-#[unsafe(no_mangle)]
-pub extern "C" fn yurdelmiz_salvage(body: &[u8], output: &mut [u8], answer: &mut [u8]) -> u32
+pub fn yurdelmiz_salvage(body: &[u8], output: &mut [u8], answer: &mut [u8]) -> u32
     ensures { record { status = result; buffer = output.new; answer = answer.new } ≡ salvage_call body.now output.old answer.old }
 {
     if answer.len() != 12 {
@@ -349,8 +329,7 @@ pub extern "C" fn yurdelmiz_salvage(body: &[u8], output: &mut [u8], answer: &mut
     }
 }
 
-#[unsafe(no_mangle)]
-pub extern "C" fn yurdelmiz_open(elements: &[u8], day: &mut [u8]) -> u32
+pub fn yurdelmiz_open(elements: &[u8], day: &mut [u8]) -> u32
     ensures { record { status = result; answer = day.new } ≡ open_call elements.now day.old }
 {
     if elements.len() != 52 {
@@ -371,8 +350,7 @@ pub extern "C" fn yurdelmiz_open(elements: &[u8], day: &mut [u8]) -> u32
     }
 }
 
-#[unsafe(no_mangle)]
-pub extern "C" fn yurdelmiz_packet(day: &mut [u8], packet: &[u8], output: &mut [u8]) -> u64
+pub fn yurdelmiz_packet(day: &mut [u8], packet: &[u8], output: &mut [u8]) -> u64
     ensures { record { status = result; buffer = output.new; answer = day.new } ≡ packet_call day.old packet.now output.old }
 {
     if day.len() != 89 {
@@ -391,8 +369,7 @@ pub extern "C" fn yurdelmiz_packet(day: &mut [u8], packet: &[u8], output: &mut [
     }
 }
 
-#[unsafe(no_mangle)]
-pub extern "C" fn yurdelmiz_close(day: &mut [u8], output: &mut [u8]) -> u64
+pub fn yurdelmiz_close(day: &mut [u8], output: &mut [u8]) -> u64
     ensures { record { status = result; buffer = output.new; answer = day.new } ≡ close_call day.old output.old }
 {
     if day.len() != 89 {
