@@ -13,7 +13,6 @@ use lib.Seq.{sets-eq, length-sets, length-take-le, take_at, take-take}
 use lib.Signed.{le_z, lt_z}
 use borrow.Author.Tests.{ltb-true, ltb-false, lt-ltb, le-ltb, le-leb}
 use Rattle.integer.proofs.Tests.{and_true}
-use Rattle.integer.proofs.Parts.{up}
 use Rattle.integer.proofs.Order.{before_parts, up_to_parts, after_parts, parts_before, parts_up_to}
 use Rattle.sequence.specs.Sequence.{leading}
 use Rattle.sequence.proofs.Sequences.{leading_all, leading_stops, leading_mono}
@@ -23,7 +22,7 @@ use Rattle.elements_buffer.specs.Buffer.{elements_bytes}
 use Rattle.element_sets.specs.declared.lookup.Finding.TheVariants.{Past, Forecast}
 use Rattle.element_sets.specs.Table.{row_size, rows_in, row_at, set_at, epoch_at, is_table, is_table_in, before, up_to}
 use Rattle.element_sets.specs.Finding.{finding}
-use Rattle.element_sets.specs.Putting.{end_with, putting, with_set}
+use Rattle.element_sets.specs.Putting.{end_with, with_set}
 use Rattle.element_sets.specs.Theorems.{PutInto, InOrder, FoundRow, NewSetFound, between, OthersFound, PastGrown, PastKept, ForecastKept}
 use Rattle.element_sets.proofs.Sound.{few, is_before, not_before, is_up_to, is_after}
 use Rattle.element_sets.proofs.Rising.{behind_after}

@@ -12,11 +12,9 @@ use lib.ListN.{length, take}
 use lib.Seq.{length-take-le}
 use lib.Signed.{le_z, lt_z}
 use borrow.Author.Tests.{ltb-true, ltb-false}
-use Rattle.integer.proofs.Parts.{up}
 use Rattle.integer.proofs.Order.{before_parts, up_to_parts, after_parts, parts_before, parts_up_to, parts_after}
 use Rattle.element_sets.specs.declared.lookup.Finding.TheVariants.{Past, Forecast, Refused}
 use Rattle.element_sets.specs.Table.{rows_in, epoch_at, is_table, is_table_in, up_to}
-use Rattle.element_sets.specs.Finding.{finding}
 use Rattle.element_sets.specs.Theorems.{LatestUpTo, NoneUpTo, Earliest, FoundAnswers}
 use Rattle.element_sets.proofs.Finds.{answer_says}
 use Rattle.element_sets.proofs.Sound.{in_buffer, rises_at, few, is_up_to, is_after}

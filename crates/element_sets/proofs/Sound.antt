@@ -11,7 +11,6 @@ use lib.Seq.{length-take-le}
 use lib.Signed.{lt_z, le_z}
 use borrow.Author.Tests.{leb-true, eqb-true, ltb-true, ltb-false}
 use Rattle.integer.proofs.Tests.{and_true}
-use Rattle.integer.proofs.Parts.{up}
 use Rattle.integer.proofs.Order.{before_parts, not_before_parts, up_to_parts, parts_up_to}
 use Rattle.sequence.specs.Sequence.{leading}
 use Rattle.sequence.proofs.Sequences.{leading_le, leading_holds, leading_fails, leading_mono}

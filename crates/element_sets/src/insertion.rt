@@ -49,6 +49,7 @@ fn place(buffer: &mut [u8], earlier: usize, later: usize, size: usize, elements:
     elements_buffer::write_elements(buffer, 52 * earlier, elements);
 }
 
+#[tactic(auto, unfolding(crate::specs::Putting::putting, crate::specs::Putting::with_set))]
 pub fn put(elements: Elements, buffer: &mut [u8], size: usize) -> Putting
     ensures { (result ≡ putting elements buffer.old size) × (buffer.new ≡ stored result elements buffer.old size) }
 {

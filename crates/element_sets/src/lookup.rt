@@ -14,6 +14,7 @@ pub enum Finding {
 }
 
 // Which row of which table.
+#[tactic(auto, unfolding(crate::specs::Finding::finding, crate::specs::Table::scanned))]
 pub fn locate(
     past: &[u8],
     past_size: usize,
@@ -41,6 +42,7 @@ pub fn locate(
 }
 
 // The row itself, in its table; where there is none, an empty part, and the refusal's number beside it.
+#[tactic(auto, unfolding(crate::specs::Finding::RowIs))]
 pub fn find<'a>(
     past: &'a [u8],
     past_size: usize,

@@ -14,6 +14,7 @@ pub(crate) enum Scan {
 }
 
 // The set of a row that the table has.
+#[tactic(auto, unfolding(crate::specs::Table::set_at))]
 fn set_at(table: &[u8], k: usize) -> Elements
     requires { row_size * k + row_size ≤ length table.now }
     ensures { result ≡ set_at table.now k }
@@ -21,6 +22,7 @@ fn set_at(table: &[u8], k: usize) -> Elements
     elements_buffer::read_elements(&table[52 * k..52 * k + 52])
 }
 
+#[tactic(auto, unfolding(crate::specs::Table::set_at))]
 fn epoch_at(table: &[u8], k: usize) -> i64
     requires { row_size * k + row_size ≤ length table.now }
     ensures { result ≡ epoch_at table.now k }
@@ -51,6 +53,7 @@ fn is_up_to(epoch: i64, time: i64) -> bool
 }
 
 // Whether the epoch of row k, which the table has, is after that of the row before.
+#[tactic(auto, unfolding(crate::specs::Table::follows))]
 fn follows(table: &[u8], k: usize) -> bool
     requires { row_size * k + row_size ≤ length table.now }
     ensures { result ≡ follows table.now k }
@@ -62,6 +65,7 @@ fn follows(table: &[u8], k: usize) -> bool
 }
 
 // Whether row k, which the table has, keeps the rules of a table.
+#[tactic(auto, unfolding(crate::specs::Table::keeps_at))]
 fn keeps(table: &[u8], k: usize) -> bool
     requires { row_size * k + row_size ≤ length table.now }
     ensures { result ≡ keeps_at table.now k }
@@ -106,6 +110,7 @@ fn scan_rows(table: &[u8], time: i64) -> Scan
     Scan::Sound(earlier, up_to)
 }
 
+#[tactic(auto, unfolding(crate::specs::Table::scanned))]
 pub(crate) fn scan_table(buffer: &[u8], size: usize, time: i64) -> Scan
     ensures { result ≡ scanned buffer.now size time }
 {

@@ -5,6 +5,7 @@ ghost use Rattle.two_line.specs.Reading.{microseconds, seconds_of, epoch_of, amo
 use two_line_fields::Form;
 
 // The millionths of a second from the start of the epoch's day.
+#[tactic(auto, unfolding(crate::specs::Reading::microseconds))]
 fn microseconds(first: &[u8]) -> u64
     ensures { result ≡ microseconds first.now }
 {
@@ -12,6 +13,7 @@ fn microseconds(first: &[u8]) -> u64
 }
 
 // The full seconds from 1957 Jan 0.0.
+#[tactic(auto, unfolding(crate::specs::Reading::seconds_of))]
 fn seconds(first: &[u8]) -> u64
     ensures { result ≡ seconds_of first.now }
 {
@@ -21,6 +23,7 @@ fn seconds(first: &[u8]) -> u64
 }
 
 // From 1990 Jan 0.0, which is 12,053 days after 1957 Jan 0.0.
+#[tactic(auto, unfolding(crate::specs::Reading::epoch_of))]
 pub(crate) fn epoch(first: &[u8]) -> i64
     ensures { result ≡ epoch_of first.now }
 {
@@ -28,6 +31,7 @@ pub(crate) fn epoch(first: &[u8]) -> i64
 }
 
 // What the mean motion turns in the part of a second that is cut.
+#[tactic(auto, unfolding(crate::specs::Reading::amount_of))]
 pub(crate) fn amount(mean_motion: u32, first: &[u8]) -> u64
     ensures { result ≡ amount_of mean_motion first.now }
 {
@@ -36,6 +40,7 @@ pub(crate) fn amount(mean_motion: u32, first: &[u8]) -> u64
 }
 
 // No mean motion of 32 bits turns a whole turn in a second, which the `requires` asks.
+#[tactic(auto, unfolding(crate::specs::Reading::moved_back))]
 pub(crate) fn moved_back(angle: u32, amount: u64) -> u32
     requires { amount ≤ 2 ^ 32 }
     ensures { result ≡ moved_back angle amount }
@@ -48,6 +53,7 @@ pub(crate) fn moved_back(angle: u32, amount: u64) -> u32
 }
 
 // The number of the revolution, where the mean anomaly and the argument of perigee have that sum.
+#[tactic(auto, unfolding(crate::specs::Reading::revolution_back))]
 pub(crate) fn revolution_back(number: u32, sum: u64, amount: u64) -> u32
     ensures { result ≡ revolution_back number sum amount }
 {

@@ -59,6 +59,7 @@ fn same_satellite(first: &[u8], second: &[u8]) -> bool
 }
 
 // A minus makes it negative.
+#[tactic(auto, unfolding(crate::specs::Reading::derivative_of))]
 fn half_derivative(first: &[u8]) -> i32
     ensures { result ≡ derivative_of first.now }
 {
@@ -88,6 +89,7 @@ fn angle(line: &[u8], column: u32) -> u32
 }
 
 // The elements of two lines, with the mean motion n.
+#[tactic(auto, unfolding(crate::specs::Reading::taken_with))]
 fn taken_with(
     n: u32,
     first: &[u8],
@@ -120,6 +122,7 @@ fn taken_with(
 
 // The elements of two lines, with the semi-major axis and the drift rates beside them; or refusals 17, 18, 19,
 // 20, in this order, then those of elements.
+#[tactic(auto, unfolding(crate::specs::Reading::two_line_reading))]
 pub fn read(
     first: &[u8],
     second: &[u8],

@@ -2,7 +2,6 @@
 use Prim.Native.Nat.{◌^◌, ◌<◌}
 use mathlib.Core.Path.{◌∙◌}
 use native.Mathlib.Omega.{arith}
-use borrow.Author.Rules.{rules}
 use lib.IntN.{pos, ◌-ℤ◌}
 use mir.Syntax.{w64}
 use mir.Val.{SFits, to_z}
@@ -10,30 +9,21 @@ use mir.Facts.{to_z_pos, to_z-of_z}
 use Rattle.integer.proofs.Bounds.{within_pos, within_sub, sfits_within}
 use Rattle.two_line.specs.Reading.{epoch_of}
 use Rattle.two_line.proofs.Epochs.{seconds_small}
-use Rattle.two_line.proofs.epoch.epoch.Statement.{statement}
-use Rattle.two_line.proofs.epoch.epoch.Tie as tie
+use Rattle.two_line.proofs.epoch.epoch.Goals as goal
+use Rattle.two_line.proofs.epoch.epoch.Goals.{After-seconds}
 
-small : (c : tie.After-seconds) → c.seconds.result < 2 ^ 32
-small c = rw c.seconds.ensures (seconds_small c.before.before.args.first.now)
+small : (c : After-seconds) → c.seconds.result < 2 ^ 32
+small c = rw c.seconds.ensures (seconds_small c.args.first.now)
 
-fits : (c : tie.After-seconds) → SFits w64 (to_z w64 c.seconds.result -ℤ pos 1_041_379_200)
+fits : (c : After-seconds) → SFits w64 (to_z w64 c.seconds.result -ℤ pos 1_041_379_200)
 fits c = rw (to_z_pos w64 {n = c.seconds.result} (omega (arith, small c))) (sfits_within (within_sub (within_pos {a = 2 ^ 32} {n = c.seconds.result} (omega (arith, small c))) (within_pos {a = 2 ^ 32} {n = 1_041_379_200} (omega arith))) tt)
 
-cast-result : tie.Need-overflow-cast-result
-cast-result c = sfits_within (within_pos {a = 2 ^ 32} (omega (arith, small c))) tt
+pub overflow_cast-result : goal.overflow_cast-result
+overflow_cast-result c = sfits_within (within_pos {a = 2 ^ 32} (omega (arith, small c))) tt
 
-sub-result : tie.Need-overflow-sub-result
-sub-result c = fits c
+pub overflow_sub-result : goal.overflow_sub-result
+overflow_sub-result c = fits c
 
-returns : tie.Need-returns
+pub returns : goal.returns
 unfolding epoch_of
 returns c = to_z-of_z (fits c) ∙ rw (to_z_pos w64 {n = c.seconds.result} (omega (arith, small c)), c.seconds.ensures)
-
-pub epoch-spec : {M : Type 1} → statement M
-epoch-spec =
-    tie.close
-    (tie.spec
-    (λ c κs. search rules)
-    cast-result
-    sub-result
-    returns)
