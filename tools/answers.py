@@ -68,6 +68,17 @@ def convert(path, names, crate, function):
         # A step that Rattle names by a number is not cited by its place; a variable's field has that spelling too.
         if step and not (re.fullmatch(re.escape(step) + r"-\d+", new_step)):
             steps[plain(step)] = new_step
+    # What an arm's pattern binds and tells, and one name for all its places.
+    told = {}
+    arms = [a for a in names["arms"] if a]
+    for (old, *_), arm, new in zip(names["places"], names["arms"], names["places_by_name"]):
+        if not arm:
+            continue
+        for field, step, path in arm[2]:
+            if path and path != ["ensures"]:
+                told[(plain(step), ".".join(path))] = f"{arm[0]}.{field}"
+        last_name = [n for a, n in zip(names["arms"], names["places_by_name"]) if a and a[0] == arm[0]][-1]
+        places[plain(old)] = last_name
     loops = {plain(old): (new, live) for ((old, new), live) in names["loops"]}
     changed = names["changed"]
 
@@ -185,6 +196,7 @@ def convert(path, names, crate, function):
             continue
         if m:
             looks.append("loop? " + first)
+        part = re.sub(r"(tie\.(?!Need)[\w'-]+) invariant-\S+ decreases-[^\s)]+", r"\1", part)
         part = re.sub(r"tie\.Need-(\S+)((?: invariant-\S+| decreases-\S+)*)", lambda k: "goal." + (need(k[1]) or "NOGOAL-" + k[1]), part)
         for old, new in new_names.items():
             part = re.sub(rf"(?<![\w'.·-]){re.escape(old)}(?![\w'-])", new, part)
@@ -224,6 +236,8 @@ def convert(path, names, crate, function):
         for w in re.findall(r"NOPLACE-(\S+)", part):
             looks.append("no place " + w)
         # 2. Steps, behind a dot.
+        part = re.sub(r"\.([a-z][\w'-]*)\.(given(?:\.[01])+)", lambda k: "." + told[(plain(k[1]), k[2])] if (plain(k[1]), k[2]) in told else k[0], part)
+        part = re.sub(r"\.Node-at(?![\w'-])", "." + steps.get("node-at", "Node-at"), part)
         part = part.replace(".type-inv", ".type_inv")
         part = re.sub(r"\.(args|ranges|fits)\.([a-z][\w'-]*)", lambda k: f".{k[1]}.{snake(k[2])}", part)
         part = re.sub(r"\.fits\.(?=[a-z])", ".ranges.", part)
