@@ -5,7 +5,7 @@ use native.Mathlib.Omega.{arith}
 use mathlib.Core.Bool.{Bool, true, false, cond}
 use mathlib.Core.List.{List, [], ◌++◌}
 use lib.ListN.{length, take, drop, length-append, length-drop}
-use lib.Seq.{sets, sets-eq, take_at, take-length, drop-drop, drop_at, length-take-le}
+use lib.Seq.{sets, sets-eq, take_at, drop-drop, drop_at, length-take-le}
 use borrow.Author.Tests.{le-ltb, lt-ltb, ltb-false}
 use Rattle.endian.proofs.Slices.{start_part}
 use Rattle.refusal.specs.declared.Refusal.{Refusal}
@@ -31,12 +31,11 @@ use Rattle.salvage.specs.Salvage.{whole_labels, kept_labels, kept_bytes, kept_co
 use Rattle.salvage.specs.Contract.{Saves, Salvaged}
 
 -- the start of some bytes, copied over another start
-pub start_copied : (body output : List ℕ) (size : ℕ) {m : List ℕ} → size ≤ length body
-    → (let part = take (size - 0) (drop 0 body) in m ≡ take (length part) part ++ drop (length part) output) → m ≡ take size body ++ drop size output
-start_copied body output size h e =
-    let part = start_part body size in
-    e ∙ (λ i. take-length (take (size - 0) (drop 0 body)) i ++ drop (length (part i)) output)
-    ∙ (λ i. part i ++ drop (length-take-le size body h i) output)
+pub start_copied : (body output : List ℕ) (size : ℕ) {m : List ℕ} → m ≡ take (size - 0) (drop 0 body)
+    → m ++ drop (size - 0) (drop 0 output) ≡ take size body ++ drop size output
+start_copied body output size e =
+    let zero : size - 0 ≡ size = omega arith in
+    (λ i. (e ∙ start_part body size) i ++ drop (zero i) output)
 
 module _ (body : List ℕ) where
   abbrev n : ℕ

@@ -43,7 +43,7 @@ pub fn keep_labels(body: &[u8], output: &mut [u8]) -> Salvage
         return Salvage::Refused(Refusal::OutputLength);
     }
     let size = label::SIZE * (kept as usize);
-    bytes::copy(&body[0..size], output);
+    output[0..size].copy_from_slice(&body[0..size]);
     trailer::write_trailer(counts, output, size);
     Salvage::Kept(kept, body.len() - size)
 }
