@@ -10,7 +10,7 @@ use crate::table::Scan;
 use elements::{Elements, Verdict};
 use refusal::Refusal;
 
-#[derive(Drop)]
+#[derive(Clone, Copy)]
 pub enum Putting {
     // The bytes of the table with the set.
     Put(usize),

@@ -5,7 +5,7 @@ ghost use Rattle.element_sets.specs.Finding.{finding, refusal_of, RowIs};
 use crate::table::Scan;
 use refusal::Refusal;
 
-#[derive(Drop)]
+#[derive(Clone, Copy)]
 pub enum Finding {
     // Each with the number of the row, from 0.
     Past(usize),

@@ -6,7 +6,7 @@ ghost use Rattle.element_sets.specs.Table.{row_size, set_at, epoch_at, accepts, 
 
 use elements::{Elements, Verdict};
 
-#[derive(Drop)]
+#[derive(Clone, Copy)]
 pub(crate) enum Scan {
     // How many sets have an epoch before a time, and how many one not after it.
     Sound(usize, usize),

@@ -28,7 +28,7 @@ pub struct Elements {
     pub half_mean_motion_derivative: i32,
 }
 
-#[derive(Drop)]
+#[derive(Clone, Copy)]
 pub enum Verdict {
     Passed,
     Refused(Refusal),

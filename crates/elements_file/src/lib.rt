@@ -34,7 +34,7 @@ pub enum Fault {
     TooLong,
 }
 
-#[derive(Drop)]
+#[derive(Clone, Copy)]
 pub enum Parsed {
     Whole(Elements),
     // The line from 1, the number from 0 of the element that was due there, and the fault.

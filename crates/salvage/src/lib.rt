@@ -13,7 +13,7 @@ use trailer::Form;
 const MOST: u32 = trailer::MOST_LABELS;
 
 // What salvage gives: how many labels it kept and how many bytes it dropped, or a refusal.
-#[derive(Drop)]
+#[derive(Clone, Copy)]
 pub enum Salvage {
     Kept(u32, usize),
     Refused(Refusal),

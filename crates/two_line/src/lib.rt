@@ -15,7 +15,7 @@ use elements::{Elements, Verdict};
 use refusal::Refusal;
 use two_line_fields::Form;
 
-#[derive(Drop)]
+#[derive(Clone, Copy)]
 pub enum TwoLineReading {
     Taken(Elements),
     // With the first column of a field, on the second line with the 69 of the first ahead of it; 0 where no

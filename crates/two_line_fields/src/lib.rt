@@ -25,7 +25,7 @@ pub enum Form {
 }
 
 // The columns of a form, from the left.
-#[derive(Drop)]
+#[derive(Clone, Copy)]
 pub struct Layout {
     pub sign: bool,
     pub ahead: u32,
@@ -35,7 +35,7 @@ pub struct Layout {
 }
 
 // A number in units of its last digit; not sound, and 0, where the columns have none.
-#[derive(Drop)]
+#[derive(Clone, Copy)]
 pub struct Decimal {
     pub sound: bool,
     pub value: u64,

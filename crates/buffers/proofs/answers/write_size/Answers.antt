@@ -1,0 +1,11 @@
+-- `buffers::answers::write_size` meets its contract. Assumes nothing.
+use mathlib.Core.Path.{◌∙◌}
+use Rattle.endian.specs.LittleEndian.{bytes4, bytes8}
+use Rattle.endian.proofs.Stores.{over_all}
+use borrow.Author.Rules.{rules}
+use Rattle.buffers.proofs.answers.write_size.Goals as goal
+
+pub returns : goal.returns
+unfolding bytes8 bytes4
+returns c =
+    c.write_u64.ensures ∙ over_all c.args.answer.now (bytes8 c.args.size) c.requires
