@@ -78,12 +78,12 @@ accepted el e =
       derivative = record { within = ltb-false _ _ slow.0 };
     }
 
-not-false : (b : Bool) → not b ≡ false → b ≡ true
-not-false true e = refl
-not-false false e = sym e
+not_false : (b : Bool) → not b ≡ false → b ≡ true
+not_false true e = refl
+not_false false e = sym e
 
 is_in_range : (t : ℤ) → not (in_range t) ≡ false → Within 3_476_476_799 t
-is_in_range t e = record { within = in_range_size t (not-false (in_range t) e) }
+is_in_range t e = record { within = in_range_size t (not_false (in_range t) e) }
 
 -- the difference of two times in range
 pub apart : (epoch time : ℤ) → not (in_range epoch) ≡ false → not (in_range time) ≡ false → Within 6_952_953_598 (time -ℤ epoch)
@@ -106,7 +106,7 @@ module _ (epoch t : ℤ) (timely : times_refused epoch t ≡ false) where
   within_year = record { within = ltb-false _ _ tests.1 }
 
   in_years : in_range t ≡ true
-  in_years = not-false (in_range t) tests.0
+  in_years = not_false (in_range t) tests.0
 
 module _ (el : Elements) (t : ℤ) (timely : time_refused el t ≡ false) where
   abbrev size : ℕ
