@@ -26,7 +26,7 @@ fn read_held(buffer: &[u8]) -> [u8; 15]
     ensures { result ≡ drop 74 buffer.now }
 {
     let mut held = [0u8; 15];
-    bytes::copy(&buffer[74..], &mut held);
+    held.copy_from_slice(&buffer[74..]);
     held
 }
 
