@@ -3,8 +3,7 @@
 use std::path::Path;
 
 fn main() {
-    let folder =
-        Path::new(env!("CARGO_MANIFEST_DIR")).join("../../target/square_root/target/staticlib");
+    let folder = Path::new(env!("CARGO_MANIFEST_DIR")).join("../../target/staticlib");
     let archive = folder.join("libsquare_root.a");
     println!("cargo::rerun-if-changed={}", archive.display());
     if !archive.exists() {

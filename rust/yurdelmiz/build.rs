@@ -18,7 +18,7 @@ fn main() {
     println!("cargo::rerun-if-changed={}", archive.display());
     if !archive.exists() {
         println!(
-            "cargo::error=no {}: build it with `rt staticlib yurdelmiz`, or name its folder in YURDELMIZ_LIB_DIR",
+            "cargo::error=no {}: a command of ./yurdelmiz builds it, as `./yurdelmiz list tests/command/oscar10.labels`; or name its folder in YURDELMIZ_LIB_DIR",
             archive.display()
         );
         return;
