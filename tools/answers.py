@@ -245,7 +245,7 @@ def convert(path, names, crate, function):
         if "in-range" in steps:
             part = part.replace(".is_in_range", "." + steps["in-range"])
         part = re.sub(r"\.([a-z_][\w'-]*)", lambda k: "." + steps[plain(k[1])] if plain(k[1]) in steps and k[1] not in ("before", "args") else k[0], part)
-        of_rattle = set(steps.values()) | set(places.values()) | set(new_names.values()) | {"new", "ensures", "requires"}
+        of_rattle = set(steps.values()) | set(places.values()) | set(new_names.values()) | {"new", "ensures", "requires"} | {a[0] for a in arms}
         part = re.sub(r"(?<!goal\.at)(?<!goal)\.([a-z][\w]*(?:-[\w']+)+)", lambda k: k[0] if k[1] in of_rattle or k[1].startswith(("invariant-", "decreases-", "iterator-")) else "." + snake(k[1]), part)
         part = re.sub(r"(\.wrapping_[\w'-]+\.ensures)(?!\.value)", r"\1.value", part)
 
