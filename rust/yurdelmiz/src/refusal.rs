@@ -2,6 +2,7 @@
 
 use std::error::Error;
 use std::fmt;
+use std::ops::RangeInclusive;
 
 /// Why an input is refused. 9 is not used, and not to be used again.
 #[derive(Clone, Copy, Debug, PartialEq, Eq, Hash)]
@@ -87,15 +88,23 @@ const TABLE: [(Refusal, u32, &str); 23] = [
     (Refusal::Day, 24, "the day is closed, or its state is none of a day"),
 ];
 
+/// The numbers that calls of element sets alone give.
+const OF_SETS: RangeInclusive<u32> = 21..=23;
+
+fn of_status(number: u32) -> Option<Refusal> {
+    TABLE.iter().find(|row| row.1 == number).map(|row| row.0)
+}
+
 impl Refusal {
     /// The number in document 01's table.
     pub fn number(self) -> u32 {
         self.row().1
     }
 
-    /// The refusal of a number in document 01's table.
+    /// The refusal of a number in document 01's table. Those of element sets alone, 21 to 23, are had from the calls
+    /// that give them.
     pub fn from_number(number: u32) -> Option<Refusal> {
-        TABLE.iter().find(|row| row.1 == number).map(|row| row.0)
+        of_status(number).filter(|_| !OF_SETS.contains(&number))
     }
 
     /// What is wrong, in a sentence without its full stop.
@@ -140,7 +149,7 @@ impl Error for Refused {}
 pub(crate) fn check(status: u32) -> Result<(), Refusal> {
     match status {
         0 => Ok(()),
-        number => Err(Refusal::from_number(number)
+        number => Err(of_status(number)
             .unwrap_or_else(|| panic!("status {number} is outside the C interface"))),
     }
 }
