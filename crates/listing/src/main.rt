@@ -10,8 +10,8 @@ ghost use Rattle.listing.specs.Contract.{EndsWithin, RoomMade};
 
 use label::Label;
 use label_file::{FileReading, LONGEST};
-use libc::{STDERR_FILENO, STDIN_FILENO, STDOUT_FILENO};
 use refusal::Refusal;
+use std::io::{self, Read};
 use trailer::{Counts, Form};
 
 // Where the bytes of the input end that a window holds from its start on, or that a read failed.
@@ -23,6 +23,7 @@ enum Input {
 
 // Makes room for more bytes behind the first `end` of a window: of a full one the second half is kept, at
 // its start. The answer is where the kept bytes end.
+#[tactic(auto, unfolding(label_file::specs::File::longest, trailer::specs::Trailer::trailer_size))]
 fn make_room(window: &mut [u8], end: usize) -> usize
     requires { (length window.old ≡ 2 * longest) × (end ≤ 2 * longest) }
     ensures { RoomMade window.old end window.new result }
@@ -32,28 +33,27 @@ fn make_room(window: &mut [u8], end: usize) -> usize
     }
     let mut half = [0u8; LONGEST];
     let middle = LONGEST;
-    bytes::copy(&window[middle..], &mut half);
-    bytes::copy(&half, window);
+    half.copy_from_slice(&window[middle..]);
+    window[..middle].copy_from_slice(&half);
     middle
 }
 
 // Reads the input up to its end. Of an input that does not fit the window the last bytes are kept, at
 // least as many as the longest file has, and not the input's length: no answer needs more, by the laws
-// `tail_suffices` and `body_ahead` of label_file. A read that fails is told from the end, which
-// `io::read_full` does not do: a file whose end could not be read must not be listed. A proved loop has to
-// end, so it counts its turns down, from a number that no run uses up.
-fn read_input(window: &mut [u8]) -> Input
+// `tail_suffices` and `body_ahead` of label_file. A read that fails is told from the end: a file whose end
+// could not be read must not be listed. A proved loop has to end, so it counts its turns down, from a number
+// that no run uses up.
+#[tactic(auto, unfolding(label_file::specs::File::longest, trailer::specs::Trailer::trailer_size))]
+fn read_input<R: Read>(input: &mut R, window: &mut [u8]) -> Input
     requires { length window.old ≡ 2 * longest }
     ensures { EndsWithin (2 * longest) result }
 {
     let mut end = 0;
     let mut turns = u64::MAX;
     while turns > 0 {
-        let got = libc::read(STDIN_FILENO, &mut window[end..]);
-        if got < 0 {
+        let Ok(more) = input.read(&mut window[end..]) else {
             return Input::Failed;
-        }
-        let more = io::count(got, &window[end..]);
+        };
         if more == 0 {
             return Input::Whole(end);
         }
@@ -63,98 +63,68 @@ fn read_input(window: &mut [u8]) -> Input
     Input::Failed
 }
 
-fn print(text: &[u8]) {
-    io::write_all(STDOUT_FILENO, text);
-}
-
-fn print_unsigned(n: u32) {
-    io::print_decimal(STDOUT_FILENO, n as u64);
-}
-
-fn print_long(n: i64) {
-    if n < 0 {
-        print(b"-");
-    }
-    io::print_decimal(STDOUT_FILENO, integer::magnitude(n));
-}
-
-fn print_signed(n: i32) {
-    print_long(n as i64);
-}
-
 // Time, revolution, side, shade, reading, elevation sine, and the bits of the watts.
-fn print_label(label: Label) {
-    let reading = label.reading;
-    print_long(label.time);
-    print(b" ");
-    print_signed(label.revolution);
-    print(b" ");
-    print_unsigned(label.side as u32);
-    print(b" ");
-    print_unsigned(label.shade as u32);
-    print(b" ");
-    print_unsigned(reading.code() as u32);
-    print(b" ");
-    print_signed(label.elevation);
-    print(b" ");
-    io::print_hex(STDOUT_FILENO, reading.watts_bits() as u64, 8);
-    print(b"\n");
+fn print_label(rt: &impl Print, label: Label) -> io::Result<()> {
+    let Label {
+        time,
+        revolution,
+        side,
+        shade,
+        reading,
+        elevation,
+    } = label;
+    let code = reading.code();
+    let watts = reading.watts_bits();
+    println!(rt; "{time} {revolution} {side} {shade} {code} {elevation} {watts:08x}")
 }
 
-fn print_counts(counts: Counts) {
-    print(b"labels ");
-    print_unsigned(counts.labels);
-    print(b" training ");
-    print_unsigned(counts.training);
-    print(b" test ");
-    print_unsigned(counts.test);
-    print(b"\n");
+fn print_counts(rt: &impl Print, counts: Counts) -> io::Result<()> {
+    println!(rt;
+        "labels {} training {} test {}",
+        counts.labels, counts.training, counts.test
+    )
 }
 
-fn print_refusal(refusal: Refusal, place: u32) {
-    print(b"refused ");
-    print_unsigned(refusal.number());
-    print(b" at ");
-    print_unsigned(place);
-    print(b"\n");
+fn print_refusal(rt: &impl Print, refusal: Refusal, place: u32) -> io::Result<()> {
+    let number = refusal.number();
+    println!(rt; "refused {number} at {place}")
 }
 
-fn print_failure() {
-    io::write_all(
-        STDERR_FILENO,
-        b"listing: standard input could not be read to its end\n",
-    );
-    print(b"failed\n");
+fn print_failure(rt: &(impl Print + Eprint)) -> io::Result<()> {
+    eprintln!(rt; "listing: standard input could not be read to its end")?;
+    println!(rt; "failed")
 }
 
-fn print_labels(file: &[u8], form: Form, counts: Counts)
+fn print_labels(rt: &impl Print, file: &[u8], form: Form, counts: Counts) -> io::Result<()>
     requires { file_reading file.now ≡ Accepted form counts }
 {
     let labels = counts.labels;
     let mut number = 0;
     while number < labels {
-        print_label(label_file::label_at(file, form, counts, number));
+        print_label(rt, label_file::label_at(file, form, counts, number))?;
         number += 1;
     }
+    Ok(())
 }
 
-fn list(file: &[u8]) {
+fn list(rt: &impl Print, file: &[u8]) -> io::Result<()> {
     let size = file.len();
     let answer = label_file::read(file, size);
     match answer {
-        FileReading::Refused(refusal, place) => print_refusal(refusal, place),
+        FileReading::Refused(refusal, place) => print_refusal(rt, refusal, place),
         FileReading::Accepted(form, counts) => {
-            print_counts(counts);
-            print_labels(file, form, counts);
+            print_counts(rt, counts)?;
+            print_labels(rt, file, form, counts)
         }
     }
 }
 
-fn main() {
+#[tactic(auto, unfolding(label_file::specs::File::longest, trailer::specs::Trailer::trailer_size))]
+fn main(rt: HostRuntime) -> io::Result<()> {
     let mut window = [0u8; 2 * LONGEST];
-    let input = read_input(&mut window);
+    let input = read_input(&mut rt.reader(), &mut window);
     match input {
-        Input::Failed => print_failure(),
-        Input::Whole(end) => list(&window[..end]),
+        Input::Failed => print_failure(&rt),
+        Input::Whole(end) => list(&rt, &window[..end]),
     }
 }
