@@ -200,7 +200,11 @@ pub fn yurdelmiz_find_set(
 pub fn yurdelmiz_put_set(elements: &[u8], buffer: &mut [u8], size: usize, answer: &mut [u8]) -> u32
     ensures { record { status = result; buffer = buffer.new; answer = answer.new } ≡ put_set_call elements.now buffer.old size answer.old }
 {
-    if elements.len() != 52 || answer.len() != 8 {
+    if elements.len() != 52 {
+        return BAD_BUFFER;
+    }
+    let room = answer.len();
+    if room != 8 {
         return BAD_BUFFER;
     }
     let put = element_sets::put(elements_buffer::read_elements(elements), buffer, size);

@@ -1,0 +1,52 @@
+-- `yurdelmiz::yurdelmiz_put_set` meets its contract. Assumes nothing.
+use mathlib.Core.Path.{◌≡◌, sym, ap, ◌∙◌}
+use mathlib.Core.Bool.{true, ◌&&◌}
+use lib.Dec.{eqb}
+use lib.ListN.{length}
+use borrow.Author.Tests.{eq-eqb, ne_eqb}
+use Rattle.elements.specs.declared.Elements.{Elements}
+use Rattle.elements_buffer.specs.Buffer.{elements_of}
+use Rattle.element_sets.specs.Putting.{putting, stored, with_set}
+use Rattle.element_sets.specs.declared.insertion.Putting.{Putting}
+use Rattle.yurdelmiz.specs.Calls.{put_outcome, put_set_call}
+use Rattle.statuses.proofs.Endings.{bad_buffers, ends_rejected, ends_written}
+use borrow.Author.Rules.{rules}
+use Rattle.yurdelmiz.proofs.yurdelmiz_put_set.Goals as goal
+use Rattle.yurdelmiz.proofs.yurdelmiz_put_set.Goals.{After-put-put, Else-room-ne8}
+
+-- both lengths are the header's
+lengths : (c : Else-room-ne8) → let a = c.args in (eqb (length a.elements.now) 52 && eqb (length a.answer.now) 8) ≡ true
+lengths c = rw (eq-eqb _ 52 c.if-elements-ne52.false, eq-eqb _ 8 c.if-room-ne8.false)
+
+module _ (c : After-put-put) where
+  abbrev el : Elements
+  el = elements_of c.args.elements.now
+
+  put_is : (c.put-put.result ≡ putting el c.args.buffer.now c.args.size) × (c.put-put.new.buffer ≡ stored c.put-put.result el c.args.buffer.now c.args.size)
+  put_is = rw c.read_elements.ensures at c.put-put.ensures
+
+  outcome : (r : Putting) → c.put-put.result ≡ r → put_outcome (putting el c.args.buffer.now c.args.size) (with_set el c.args.buffer.now c.args.size) ≡ put_outcome r (with_set el c.args.buffer.now c.args.size)
+  outcome r e = ap (λ (p : Putting). put_outcome p (with_set el c.args.buffer.now c.args.size)) (sym put_is.0 ∙ e)
+
+  after : (r : Putting) → c.put-put.result ≡ r → c.put-put.new.buffer ≡ stored r el c.args.buffer.now c.args.size
+  after r e = put_is.1 ∙ ap (λ (p : Putting). stored p el c.args.buffer.now c.args.size) e
+
+pub returns-then-elements-ne52 : goal.returns-then-elements-ne52
+unfolding put_set_call
+returns-then-elements-ne52 c = bad_buffers _ _ _ _ (rw (ne_eqb _ 52 c.if-elements-ne52.true))
+
+pub returns-then-room-ne8 : goal.returns-then-room-ne8
+unfolding put_set_call
+returns-then-room-ne8 c = bad_buffers _ _ _ _ (rw (eq-eqb _ 52 c.if-elements-ne52.false, ne_eqb _ 8 c.if-room-ne8.true))
+
+pub returns-in-Refused : goal.returns-in-Refused
+unfolding put_set_call
+returns-in-Refused c =
+    let r = c.in-Refused.is in
+    ends_rejected _ _ _ _ c.number.ensures (after (goal.at.returns-in-Refused c).After-put-put _ r) (lengths (goal.at.returns-in-Refused c).Else-room-ne8) (outcome (goal.at.returns-in-Refused c).After-put-put _ r)
+
+pub returns-in-Put : goal.returns-in-Put
+unfolding put_set_call
+returns-in-Put c =
+    let r = c.in-Put.is in
+    ends_written _ _ _ _ (after (goal.at.returns-in-Put c).After-put-put _ r) c.write_size.ensures (lengths (goal.at.returns-in-Put c).Else-room-ne8) (outcome (goal.at.returns-in-Put c).After-put-put _ r)
