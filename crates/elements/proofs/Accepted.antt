@@ -1,8 +1,8 @@
 -- What elements and a time that pass the checks satisfy. Assumes nothing.
 use mathlib.Core.Path.{◌≡◌, refl, sym}
 use mathlib.Core.Bool.{Bool, true, false, not, ◌||◌, ◌&&◌}
-use Prim.Native.Nat.{ℕ, zero, suc, ◌*◌, ◌≤◌}
-use native.Mathlib.Nat.{zero-mul, mul-le-mul_left}
+use Prim.Native.Nat.{ℕ, zero, suc, ◌*◌, ◌-◌, ◌≤◌, ◌<◌}
+use native.Mathlib.Nat.{zero-mul, mul-zero, mul-le-mul_left}
 use native.Mathlib.Omega.{arith}
 use borrow.Author.Tests.{ltb-false, lt-ltb}
 use lib.Dec.{ltb}
@@ -17,8 +17,18 @@ use Rattle.elements.specs.declared.Elements.{Elements}
 use Rattle.elements.specs.declared.Verdict.{Verdict}
 use Rattle.elements.specs.declared.Verdict.TheVariants.{Passed, Refused}
 use Rattle.elements.specs.Contract.{Near}
-use Rattle.elements.specs.Elements.{refuse_if, least_motion, checked_to7, checked}
+use Rattle.elements.specs.Elements.{refuse_if, perigee_below, least_motion, checked_to7, checked}
 use Rattle.elements.specs.Time.{times_refused, time_refused, checked_at}
+
+pub perigee_beyond : (a e : ℕ) → 10000000 < e → true ≡ perigee_below a e
+unfolding perigee_below
+perigee_beyond a e h =
+    let z : 10000000 - e ≡ 0 = omega arith in
+    sym (lt-ltb (a * (10000000 - e)) 64780000000000 (rw (z, mul-zero a) (omega arith)))
+
+-- one more check, of a verdict and a test that are known
+pub also : {v v' w : Verdict} {f f' : Bool} (r : Refusal) → v ≡ v' → f ≡ f' → w ≡ refuse_if v f r → w ≡ refuse_if v' f' r
+also r p q e = rw (← p, ← q) e
 
 -- a verdict that stands after a check stood before it, and the check did not fail
 pub record Stood (v : Verdict) (fails : Bool) : Type 0 where

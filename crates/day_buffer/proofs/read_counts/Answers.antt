@@ -1,5 +1,4 @@
 -- `day_buffer::read_counts` meets its contract. Assumes nothing.
-use borrow.Author.Rules.{rules}
 use Rattle.day_buffer.specs.State.{counts_in}
 use Rattle.day_buffer.proofs.read_counts.Goals as goal
 

@@ -1,6 +1,5 @@
 -- `day_buffer::read_day` meets its contract. Assumes nothing.
 use mathlib.Core.Bool.{not}
-use borrow.Author.Rules.{rules}
 use lib.Dec.{eqb}
 use lib.ListN.{get_or}
 use Rattle.day_buffer.specs.State.{day_of}

@@ -1,7 +1,6 @@
 -- `digit::value` meets its contract. Assumes nothing.
 use mathlib.Core.Path.{sym, ◌∙◌}
 use native.Mathlib.Omega.{arith}
-use borrow.Author.Rules.{rules}
 use Rattle.digit.proofs.Range.{digit_range}
 use Rattle.digit.proofs.value.Goals as goal
 

@@ -1,5 +1,4 @@
 -- `eclipse::any_beyond` meets its contract. Assumes nothing.
-use borrow.Author.Rules.{rules}
 use borrow.Author.Tests.{lt-ltb, le-ltb}
 use mathlib.Core.Path.{◌≡◌}
 use lib.IntN.{nat_abs}

@@ -1,5 +1,4 @@
 -- `eclipse::elevation` meets its contract. Assumes nothing.
-use borrow.Author.Rules.{rules}
 use mir.Facts.{to_z-of_z}
 use Rattle.integer.proofs.Bounds.{sfits_within}
 use Rattle.integer.proofs.TwosComplement.{read_back, read_within}

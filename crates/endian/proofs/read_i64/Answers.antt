@@ -1,5 +1,4 @@
 -- `endian::read_i64` meets its contract. Assumes nothing.
-use borrow.Author.Rules.{rules}
 use mir.Syntax.{w64}
 use Rattle.endian.proofs.Signed.{signed_read}
 use Rattle.endian.proofs.read_i64.Goals as goal

@@ -1,5 +1,4 @@
 -- `endian::write_four` meets its contract. Assumes nothing.
-use borrow.Author.Rules.{rules}
 use native.Mathlib.Omega.{arith}
 use lib.ListN.{length-set}
 use Rattle.endian.proofs.Stores.{sets4}

@@ -1,5 +1,4 @@
 -- `endian::write_i32` meets its contract. Assumes nothing.
-use borrow.Author.Rules.{rules}
 use mir.Syntax.{w32}
 use Rattle.endian.specs.LittleEndian.{bytes4}
 use Rattle.endian.proofs.Signed.{signed_stored}

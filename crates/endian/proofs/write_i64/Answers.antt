@@ -1,5 +1,4 @@
 -- `endian::write_i64` meets its contract. Assumes nothing.
-use borrow.Author.Rules.{rules}
 use mir.Syntax.{w64}
 use Rattle.endian.specs.LittleEndian.{bytes8}
 use Rattle.endian.proofs.Signed.{signed_stored}

@@ -1,5 +1,4 @@
 -- `endian::write_u32` meets its contract. Assumes nothing.
-use borrow.Author.Rules.{rules}
 use Rattle.endian.specs.LittleEndian.{bytes4}
 use Rattle.endian.proofs.write_u32.Goals as goal
 

@@ -1,5 +1,4 @@
 -- `endian::write_u64` meets its contract. Assumes nothing.
-use borrow.Author.Rules.{rules}
 use Rattle.endian.proofs.Stores.{then8}
 use Rattle.endian.proofs.write_u64.Goals as goal
 

@@ -1,11 +1,7 @@
 -- `endian::write_words` meets its contract. Assumes nothing.
-use mathlib.Core.Path.{◌≡◌, refl, sym, ◌∙◌}
-use Prim.Native.Nat.{◌+◌, ◌*◌, ◌-◌, ◌≤◌}
+use mathlib.Core.Path.{refl, sym, ◌∙◌}
 use native.Mathlib.Nat.{add-zero}
 use native.Mathlib.Omega.{arith}
-use lib.ListN.{length, drop}
-use lib.Seq.{sets}
-use Rattle.endian.specs.LittleEndian.{words}
 use Rattle.endian.proofs.Words.{word_stored, words_stored}
 use Rattle.endian.proofs.write_words.Goals as goal
 

@@ -1,5 +1,4 @@
 -- `integer::below_zero` meets its contract. Assumes nothing.
-use borrow.Author.Rules.{rules}
 use mir.Syntax.{w64}
 use Rattle.integer.proofs.TwosComplement.{negsuc_fits, negsuc_read}
 use Rattle.integer.proofs.below_zero.Goals as goal

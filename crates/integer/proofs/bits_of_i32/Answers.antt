@@ -1,5 +1,4 @@
 -- `integer::bits_of_i32` meets its contract. Assumes nothing.
-use borrow.Author.Rules.{rules}
 use mir.Facts.{to_z-of_z, sfits_widen}
 use Rattle.integer.proofs.TwosComplement.{lower_half}
 use Rattle.integer.proofs.bits_of_i32.Goals as goal

@@ -1,5 +1,4 @@
 -- `integer::floor_div` meets its contract. Assumes nothing.
-use borrow.Author.Rules.{rules}
 use mathlib.Core.Path.{sym, ap, ◌∙◌}
 use native.Mathlib.Nat.{lt_of_le_of_lt, div-le_self, mod-lt}
 use native.Mathlib.Omega.{arith}

@@ -1,5 +1,4 @@
 -- `integer::i32_of_bits` meets its contract. Assumes nothing.
-use borrow.Author.Rules.{rules}
 use mathlib.Core.Path.{◌≡◌, ap, ◌∙◌}
 use Prim.Native.Nat.{◌^◌}
 use lib.IntN.{ℤ}

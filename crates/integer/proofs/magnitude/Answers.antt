@@ -1,7 +1,6 @@
 -- `integer::magnitude` meets its contract. Assumes nothing.
 use mathlib.Core.Path.{◌≡◌, ap}
 use native.Mathlib.Omega.{arith}
-use borrow.Author.Rules.{rules}
 use lib.IntN.{nat_abs}
 use lib.Signed.{mag}
 use mir.Facts.{to_z-of_z}

@@ -1,5 +1,4 @@
 -- `integer::next_bit` meets its contract. Assumes nothing.
-use borrow.Author.Rules.{rules}
 use Prim.Native.Nat.{◌*◌, ◌≤◌}
 use native.Mathlib.Omega.{arith}
 use Rattle.integer.proofs.Root.{remainder_le}

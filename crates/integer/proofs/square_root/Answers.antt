@@ -1,7 +1,6 @@
 -- `integer::square_root` meets its contract. Assumes nothing.
-use Prim.Native.Nat.{◌-◌, ◌≤◌}
 use native.Mathlib.Omega.{arith}
-use Rattle.integer.proofs.DigitByDigit.{AfterRounds, no_round, one_round, room, all_rounds}
+use Rattle.integer.proofs.DigitByDigit.{no_round, one_round, room, all_rounds}
 use Rattle.integer.proofs.square_root.Goals as goal
 
 pub loop-round-init : goal.loop-round-init

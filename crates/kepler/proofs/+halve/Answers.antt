@@ -1,6 +1,6 @@
 -- `kepler::halve` meets its contract. Assumes nothing.
 use Rattle.std.proofs.Common.{arith}
-use Rattle.kepler.proofs.Recursion.{half_width, none_left, shifted, decides_at, halved}
+use Rattle.kepler.proofs.Recursion.{half_width, none_left, shifted, halved}
 use Rattle.kepler.proofs.+halve.Goals as goal
 
 pub returns-then-left-eq0 : goal.returns-then-left-eq0

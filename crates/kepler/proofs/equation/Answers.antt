@@ -1,5 +1,5 @@
 -- `kepler::equation` meets its contract. Assumes nothing.
-use Rattle.std.proofs.Common.{mul-le-mul, arith, rules}
+use Rattle.std.proofs.Common.{mul-le-mul, arith}
 use Rattle.kepler.proofs.Computed.{h_of}
 use Rattle.kepler.proofs.Halves.{k_upper, k_lower}
 use Rattle.kepler.proofs.equation.Goals as goal

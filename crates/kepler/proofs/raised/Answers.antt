@@ -1,5 +1,5 @@
 -- `kepler::raised` meets its contract. Assumes nothing.
-use Rattle.std.proofs.Common.{arith, rules}
+use Rattle.std.proofs.Common.{arith}
 use Rattle.kepler.proofs.Recursion.{raised_up, kept, inside, outside}
 use Rattle.kepler.proofs.raised.Goals as goal
 

@@ -1,5 +1,4 @@
 -- `kepler::solve` meets its contract. Assumes nothing.
-use Rattle.std.proofs.Common.{rules}
 use Rattle.kepler.proofs.Answer.{answer_refused, answer_solved}
 use Rattle.kepler.proofs.solve.Goals as goal
 

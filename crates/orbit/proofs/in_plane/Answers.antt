@@ -1,5 +1,4 @@
 -- `orbit::in_plane` meets its contract. Assumes nothing.
-use borrow.Author.Rules.{rules}
 use mathlib.Core.Path.{refl, ◌∙◌}
 use mir.Facts.{to_z-of_z}
 use Rattle.integer.proofs.TwosComplement.{read_back}

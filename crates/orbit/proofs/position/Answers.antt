@@ -1,5 +1,4 @@
 -- `orbit::position` meets its contract. Assumes nothing.
-use borrow.Author.Rules.{rules}
 use mathlib.Core.Path.{◌≡◌, ◌∙◌, ap, sym}
 use mir.Facts.{to_z-of_z}
 use Rattle.orbit.specs.declared.Placement.TheVariants.{Placed}

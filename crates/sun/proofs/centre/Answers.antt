@@ -1,5 +1,5 @@
 -- `sun::centre` meets its contract. Assumes nothing.
-use Rattle.std.proofs.Common.{◌≡◌, ◌^◌, ◌+ℤ◌, ap, ◌∙◌, lit≤, to_z-of_z, w64, to_z, of_z, rules}
+use Rattle.std.proofs.Common.{◌≡◌, ◌^◌, ◌+ℤ◌, ap, ◌∙◌, lit≤, to_z-of_z, w64, to_z, of_z}
 use Rattle.integer.proofs.Bounds.{within_mul, within_pos, sfits_within}
 use Rattle.integer.proofs.TwosComplement.{read_back, read_within}
 use Rattle.trig.specs.Sine.{S}

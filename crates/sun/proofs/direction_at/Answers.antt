@@ -1,5 +1,5 @@
 -- `sun::direction_at` meets its contract. Assumes nothing.
-use Rattle.std.proofs.Common.{◌^◌, ◌∙◌, lit≤, rules}
+use Rattle.std.proofs.Common.{◌^◌, ◌∙◌, lit≤}
 use Rattle.integer.proofs.Bounds.{within_mul, within_pos}
 use Rattle.integer.proofs.TwosComplement.{read_back, read_within}
 use Rattle.sun.specs.Sun.{direction_of}

@@ -1,5 +1,5 @@
 -- `sun::find` meets its contract. Assumes nothing.
-use Rattle.std.proofs.Common.{◌≡◌, sym, ◌∙◌, to_z-of_z, rules}
+use Rattle.std.proofs.Common.{◌≡◌, sym, ◌∙◌, to_z-of_z}
 use Rattle.time.specs.Range.{in_range}
 use Rattle.sun.specs.Sun.{sun_answer}
 use Rattle.sun.proofs.find.Goals as goal

@@ -1,5 +1,5 @@
 -- `sun::part_turn` meets its contract. Assumes nothing.
-use Rattle.std.proofs.Common.{◌≡◌, ℕ, ◌*◌, ◌/◌, ◌^◌, ap, ◌∙◌, arith, to_z-of_z, rules}
+use Rattle.std.proofs.Common.{◌≡◌, ℕ, ◌*◌, ◌/◌, ◌^◌, ap, ◌∙◌, arith, to_z-of_z}
 use Rattle.integer.specs.Division.{mod_z}
 use Rattle.integer.proofs.Division.{mod_below}
 use Rattle.sun.specs.Sun.{part_turn}

@@ -1,5 +1,5 @@
 -- `sun::wrapped` meets its contract. Assumes nothing.
-use Rattle.std.proofs.Common.{◌≡◌, ◌^◌, arith, lit<, to_z-of_z, rules}
+use Rattle.std.proofs.Common.{◌≡◌, ◌^◌, arith, lit<, to_z-of_z}
 use Rattle.integer.specs.Division.{mod_z}
 use Rattle.integer.proofs.Division.{mod_below}
 use Rattle.sun.proofs.wrapped.Goals as goal

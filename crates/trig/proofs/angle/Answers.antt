@@ -1,6 +1,5 @@
 -- `trig::angle` meets its contract. Assumes nothing.
 use mathlib.Core.Path.{refl}
-use borrow.Author.Rules.{rules}
 use Rattle.trig.specs.Angle.{angle_of}
 use Rattle.trig.proofs.angle.Goals as goal
 

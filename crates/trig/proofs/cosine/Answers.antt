@@ -1,5 +1,4 @@
 -- `trig::cosine` meets its contract. Assumes nothing.
-use borrow.Author.Rules.{rules}
 use mir.Facts.{to_z-of_z}
 use mir.Syntax.{w64}
 use Rattle.trig.specs.Sine.{C}

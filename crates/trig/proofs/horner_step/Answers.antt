@@ -1,6 +1,5 @@
 -- `trig::horner_step` meets its contract. Assumes nothing.
 use mathlib.Core.Path.{refl}
-use borrow.Author.Rules.{rules}
 use native.Mathlib.Nat.{mul-le-mul}
 use native.Mathlib.Omega.{arith}
 use Rattle.trig.specs.Sine.{horner_step}

@@ -1,5 +1,4 @@
 -- `trig::quarter_sine` meets its contract. Assumes nothing.
-use borrow.Author.Rules.{rules}
 use native.Mathlib.Nat.{mul-le-mul}
 use native.Mathlib.Omega.{arith}
 use Rattle.trig.proofs.Products.{quarter_sine_is}

@@ -1,6 +1,5 @@
 -- `trig::radians` meets its contract. Assumes nothing.
 use mathlib.Core.Path.{refl}
-use borrow.Author.Rules.{rules}
 use native.Mathlib.Omega.{arith}
 use Rattle.trig.specs.Sine.{radians}
 use Rattle.trig.proofs.radians.Goals as goal

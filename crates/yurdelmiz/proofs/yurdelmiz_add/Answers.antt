@@ -9,7 +9,6 @@ use Rattle.elements_buffer.specs.Buffer.{elements_of}
 use Rattle.yurdelmiz.specs.Calls.{add_call}
 use Rattle.statuses.proofs.Endings.{bad_buffers, ends_rejected, ends_written}
 use Rattle.yurdelmiz.proofs.Additions.{add_outcome_lem, unchanged}
-use borrow.Author.Rules.{rules}
 use Rattle.yurdelmiz.proofs.yurdelmiz_add.Goals as goal
 use Rattle.yurdelmiz.proofs.yurdelmiz_add.Goals.{After-add-added, Else-answer-ne28}
 

@@ -4,7 +4,6 @@ use borrow.Author.Tests.{eq-eqb, ne_eqb}
 use Rattle.buffers.specs.Answers.{not_held}
 use Rattle.yurdelmiz.specs.Calls.{dark_test_outcome, dark_test_call}
 use Rattle.statuses.proofs.Endings.{bad_buffer, ends_refused, ends_given}
-use borrow.Author.Rules.{rules}
 use Rattle.yurdelmiz.proofs.yurdelmiz_dark_test.Goals as goal
 
 pub returns-then-answer-ne4 : goal.returns-then-answer-ne4

@@ -8,7 +8,6 @@ use Rattle.endian.proofs.Stores.{over_all}
 use Rattle.elements_buffer.specs.Buffer.{elements_bytes}
 use Rattle.yurdelmiz.specs.Calls.{elements_outcome, elements_call}
 use Rattle.statuses.proofs.Endings.{bad_buffer, ends_refused, ends_given}
-use borrow.Author.Rules.{rules}
 use Rattle.yurdelmiz.proofs.yurdelmiz_elements.Goals as goal
 
 pub returns-then-answer-ne52 : goal.returns-then-answer-ne52

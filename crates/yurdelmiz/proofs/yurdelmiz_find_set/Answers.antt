@@ -7,7 +7,6 @@ use Rattle.element_sets.specs.Finding.{finding}
 use Rattle.element_sets.proofs.Finds.{past_row, forecast_row}
 use Rattle.yurdelmiz.specs.Calls.{find_outcome, find_set_call}
 use Rattle.statuses.proofs.Endings.{bad_buffer, ends_refused, ends_given}
-use borrow.Author.Rules.{rules}
 use Rattle.yurdelmiz.proofs.yurdelmiz_find_set.Goals as goal
 use Rattle.yurdelmiz.proofs.yurdelmiz_find_set.Goals.{After-locate-found}
 

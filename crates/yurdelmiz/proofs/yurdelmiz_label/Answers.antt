@@ -5,7 +5,6 @@ use Rattle.elements_buffer.specs.Buffer.{elements_of}
 use Rattle.yurdelmiz.specs.Calls.{label_call}
 use Rattle.statuses.proofs.Endings.{bad_buffer, ends_refused, ends_given}
 use Rattle.yurdelmiz.proofs.Days.{day_outcome_lem, unchanged}
-use borrow.Author.Rules.{rules}
 use Rattle.yurdelmiz.proofs.yurdelmiz_label.Goals as goal
 use Rattle.yurdelmiz.proofs.yurdelmiz_label.Goals.{After-label_day-labelled}
 

@@ -9,7 +9,6 @@ use Rattle.packets.specs.declared.Outcome.{Outcome}
 use Rattle.elements_buffer.specs.Buffer.{elements_of}
 use Rattle.yurdelmiz.specs.Calls.{open_outcome, open_call}
 use Rattle.statuses.proofs.Endings.{bad_buffer, ends_refused, ends_given}
-use borrow.Author.Rules.{rules}
 use Rattle.yurdelmiz.proofs.yurdelmiz_open.Goals as goal
 use Rattle.yurdelmiz.proofs.yurdelmiz_open.Goals.{After-open_day-step, Else-day-ne89}
 

@@ -5,7 +5,6 @@ use Rattle.day_buffer.specs.State.{day_of}
 use Rattle.yurdelmiz.specs.Calls.{packet_call}
 use Rattle.yurdelmiz.proofs.DaySteps.{step_outcome_lem, unchanged}
 use Rattle.statuses.proofs.Endings.{bad_buffers, ends_rejected, ends_written}
-use borrow.Author.Rules.{rules}
 use Rattle.yurdelmiz.proofs.yurdelmiz_packet.Goals as goal
 use Rattle.yurdelmiz.proofs.yurdelmiz_packet.Goals.{After-take_packet-step}
 

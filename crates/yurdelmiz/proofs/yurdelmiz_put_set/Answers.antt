@@ -10,7 +10,6 @@ use Rattle.element_sets.specs.Putting.{putting, stored, with_set}
 use Rattle.element_sets.specs.declared.insertion.Putting.{Putting}
 use Rattle.yurdelmiz.specs.Calls.{put_outcome, put_set_call}
 use Rattle.statuses.proofs.Endings.{bad_buffers, ends_rejected, ends_written}
-use borrow.Author.Rules.{rules}
 use Rattle.yurdelmiz.proofs.yurdelmiz_put_set.Goals as goal
 use Rattle.yurdelmiz.proofs.yurdelmiz_put_set.Goals.{After-put-put, Else-room-ne8}
 

@@ -3,7 +3,6 @@ use borrow.Author.Tests.{eq-eqb, ne_eqb}
 use Rattle.yurdelmiz.specs.Calls.{salvage_call}
 use Rattle.statuses.proofs.Endings.{bad_buffers, ends_rejected, ends_written}
 use Rattle.yurdelmiz.proofs.Salvages.{salvage_outcome_lem, unchanged}
-use borrow.Author.Rules.{rules}
 use Rattle.yurdelmiz.proofs.yurdelmiz_salvage.Goals as goal
 
 pub returns-then-answer-ne12 : goal.returns-then-answer-ne12

@@ -5,7 +5,6 @@ use Rattle.scale.specs.Step.{scaling}
 use Rattle.figures_buffer.specs.FigureBytes.{figures_in}
 use Rattle.yurdelmiz.specs.Calls.{scale_outcome, scale_call}
 use Rattle.statuses.proofs.Endings.{bad_buffer, ends_refused, ends_given}
-use borrow.Author.Rules.{rules}
 use Rattle.yurdelmiz.proofs.yurdelmiz_scale.Goals as goal
 use Rattle.yurdelmiz.proofs.yurdelmiz_scale.Goals.{After-add_file-scaled}
 

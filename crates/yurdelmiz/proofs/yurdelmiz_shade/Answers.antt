@@ -8,7 +8,6 @@ use Prim.Native.Nat.{ℕ}
 use mathlib.Core.List.{[], ◌∷◌}
 use mir.Facts.{to_z-of_z}
 use Rattle.eclipse.specs.Shade.{shade_answer}
-use borrow.Author.Rules.{rules}
 use Rattle.yurdelmiz.proofs.yurdelmiz_shade.Goals as goal
 use Rattle.yurdelmiz.proofs.yurdelmiz_shade.Goals.{After-shade_test-shaded}
 

@@ -8,7 +8,6 @@ use Rattle.two_line.specs.Reading.{two_line_reading}
 use Rattle.elements_buffer.specs.Buffer.{elements_bytes}
 use Rattle.yurdelmiz.specs.Calls.{two_line_outcome, two_line_call}
 use Rattle.statuses.proofs.Endings.{bad_buffer, ends_refused, ends_given}
-use borrow.Author.Rules.{rules}
 use Rattle.yurdelmiz.proofs.yurdelmiz_two_line.Goals as goal
 use Rattle.yurdelmiz.proofs.yurdelmiz_two_line.Goals.{After-read-reading}
 

@@ -3,7 +3,6 @@ use mir.Syntax.{w32}
 use mir.Val.{SFits}
 use mir.Facts.{to_z-of_z}
 use Rattle.integer.proofs.Bounds.{sfits_within}
-use borrow.Author.Rules.{rules}
 use Rattle.buffers.proofs.answers.component_bits.Goals as goal
 use Rattle.buffers.proofs.answers.component_bits.Goals.{Start}
 

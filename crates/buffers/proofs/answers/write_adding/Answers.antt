@@ -3,7 +3,6 @@ use mathlib.Core.Path.{refl, ◌∙◌}
 use Rattle.endian.specs.LittleEndian.{bytes4, bytes8, words}
 use Rattle.endian.proofs.Stores.{then, over_all}
 use Rattle.buffers.specs.Answers.{counts_bytes, add_bytes}
-use borrow.Author.Rules.{rules}
 use Rattle.buffers.proofs.answers.write_adding.Goals as goal
 
 pub returns : goal.returns

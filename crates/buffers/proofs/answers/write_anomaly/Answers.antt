@@ -2,7 +2,6 @@
 use mathlib.Core.Path.{◌∙◌}
 use Rattle.buffers.specs.Answers.{anomaly_bytes}
 use Rattle.endian.proofs.Words.{words_fill}
-use borrow.Author.Rules.{rules}
 use Rattle.buffers.proofs.answers.write_anomaly.Goals as goal
 
 pub returns : goal.returns

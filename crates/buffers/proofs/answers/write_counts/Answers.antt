@@ -1,6 +1,5 @@
 -- `buffers::answers::write_counts` meets its contract. Assumes nothing.
 use Rattle.buffers.specs.Answers.{counts_bytes}
-use borrow.Author.Rules.{rules}
 use Rattle.buffers.proofs.answers.write_counts.Goals as goal
 
 pub returns : goal.returns

@@ -2,7 +2,6 @@
 use mathlib.Core.Path.{◌∙◌}
 use Rattle.endian.specs.LittleEndian.{bytes4}
 use Rattle.endian.proofs.Stores.{over_all}
-use borrow.Author.Rules.{rules}
 use Rattle.buffers.proofs.answers.write_figure.Goals as goal
 
 pub returns : goal.returns

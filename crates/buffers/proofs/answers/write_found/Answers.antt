@@ -3,7 +3,6 @@ use mathlib.Core.Path.{refl, ◌∙◌}
 use Rattle.endian.specs.LittleEndian.{bytes4, bytes8}
 use Rattle.endian.proofs.Stores.{then, over_all}
 use Rattle.buffers.specs.Answers.{found_bytes}
-use borrow.Author.Rules.{rules}
 use Rattle.buffers.proofs.answers.write_found.Goals as goal
 
 pub returns : goal.returns

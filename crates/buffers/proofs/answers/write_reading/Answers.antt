@@ -8,7 +8,6 @@ use Rattle.endian.proofs.Stores.{then, over_all}
 use Rattle.trailer.specs.Trailer.{trailer_size}
 use Rattle.trailer.proofs.Trailers.{size_bounds}
 use Rattle.buffers.specs.Answers.{counts_bytes, read_bytes}
-use borrow.Author.Rules.{rules}
 use Rattle.buffers.proofs.answers.write_reading.Goals as goal
 
 pub overflow_cast-size : goal.overflow_cast-size

@@ -2,7 +2,6 @@
 use mathlib.Core.Path.{◌∙◌}
 use Rattle.endian.specs.LittleEndian.{bytes4, bytes8}
 use Rattle.endian.proofs.Stores.{over_all}
-use borrow.Author.Rules.{rules}
 use Rattle.buffers.proofs.answers.write_size.Goals as goal
 
 pub returns : goal.returns

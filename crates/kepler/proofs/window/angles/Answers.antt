@@ -1,5 +1,5 @@
 -- `kepler::window::angles` meets its contract. Assumes nothing.
-use Rattle.std.proofs.Common.{arith, rules}
+use Rattle.std.proofs.Common.{arith}
 use Rattle.kepler.proofs.Decided.{reached}
 use Rattle.kepler.proofs.window.angles.Goals as goal
 

@@ -1,5 +1,5 @@
 -- `kepler::window::around` meets its contract. Assumes nothing.
-use Rattle.std.proofs.Common.{refl, rules}
+use Rattle.std.proofs.Common.{refl}
 use Rattle.kepler.proofs.window.around.Goals as goal
 
 pub returns : goal.returns

@@ -1,5 +1,4 @@
 -- `kepler::window::of_guess` meets its contract. Assumes nothing.
-use Rattle.std.proofs.Common.{rules}
 use Rattle.kepler.proofs.Decided.{decides, decides_middle}
 use Rattle.kepler.proofs.window.of_guess.Goals as goal
 

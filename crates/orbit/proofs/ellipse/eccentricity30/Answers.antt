@@ -1,5 +1,4 @@
 -- `orbit::ellipse::eccentricity30` meets its contract. Assumes nothing.
-use borrow.Author.Rules.{rules}
 use mathlib.Core.Path.{refl}
 use native.Mathlib.Omega.{arith}
 use Rattle.orbit.specs.Ellipse.{e30}

@@ -1,5 +1,4 @@
 -- `orbit::turns::drift_at` meets its contract. Assumes nothing.
-use borrow.Author.Rules.{rules}
 use mathlib.Core.Path.{◌≡◌, ◌∙◌}
 use lib.Dec.{lit≤}
 use mir.Syntax.{w64}
