@@ -10,18 +10,57 @@ use lib.IntN.{ℤ}
 use lib.ListN.{length, take, drop}
 use lib.Seq.{length-take-le}
 use denote.Ref.{Bor}
-use borrow.Author.Tests.{ltb-true, ltb-false}
+use borrow.Author.Tests.{lt-ltb, le-ltb, ltb-true, ltb-false, le-leb}
 use Rattle.refusal.specs.declared.Refusal.TheVariants.{Table, NoSet}
 use Rattle.element_sets.specs.declared.lookup.Finding.{Finding}
 use Rattle.element_sets.specs.declared.lookup.Finding.TheVariants.{Past, Forecast, Refused}
-use Rattle.element_sets.specs.Table.{row_size, rows_in, is_table_in, up_to}
+use Rattle.element_sets.specs.declared.table.Scan.TheVariants.{Sound, Broken}
+use Rattle.element_sets.specs.Table.{row_size, rows_in, is_table_in, before, up_to, scanned}
 use Rattle.element_sets.specs.Part.{PartOf}
-use Rattle.element_sets.specs.Finding.{finding, RowIs}
-use Rattle.element_sets.proofs.Sound.{in_buffer, few}
+use Rattle.element_sets.specs.Finding.{found_among, finding, RowIs}
+use Rattle.element_sets.proofs.Sound.{told, in_buffer, few}
 
 module _ (past : List ℕ) (past_size : ℕ) (forecast : List ℕ) (forecast_size : ℕ) (time : ℤ) where
   abbrev answer : Finding
   answer = finding past past_size forecast forecast_size time
+
+  -- the answer by what the two tables are
+  abbrev by : Bool → Bool → Finding
+  by p f = cond (p && f) (found_among (up_to (take past_size past) time) (rows_in forecast_size)) (Refused Table)
+
+  broken : (buffer : List ℕ) (size : ℕ) → scanned buffer size time ≡ Broken → is_table_in buffer size ≡ false
+  unfolding scanned
+  broken buffer size e = of (is_table_in buffer size) e
+    where
+      of : (t : Bool) → cond t (Sound (before (take size buffer) time) (up_to (take size buffer) time)) Broken ≡ Broken → t ≡ false
+      of true e = let z : ◌≡◌ {A = ℕ} 0 1 = cc in absurd (omega arith)
+      of false e = refl
+
+  sound : (buffer : List ℕ) (size : ℕ) {earlier later : ℕ} → scanned buffer size time ≡ Sound earlier later → is_table_in buffer size ≡ true
+  unfolding is_table_in
+  sound buffer size {earlier} {later} e = let t = told buffer size time earlier later e in rw (le-leb size (length buffer) t.held, t.table)
+
+  pub past_broken : scanned past past_size time ≡ Broken → Refused Table ≡ answer
+  unfolding finding
+  past_broken e = rw (broken past past_size e)
+
+  pub forecast_broken : {a b : ℕ} → scanned past past_size time ≡ Sound a b → scanned forecast forecast_size time ≡ Broken → Refused Table ≡ answer
+  unfolding finding
+  forecast_broken e f = rw (sound past past_size e, broken forecast forecast_size f)
+
+  module _ {a b c d : ℕ} (e : scanned past past_size time ≡ Sound a b) (f : scanned forecast forecast_size time ≡ Sound c d) where
+    both_sound : answer ≡ found_among b (rows_in forecast_size)
+    unfolding finding
+    both_sound = rw (sound past past_size e, sound forecast forecast_size f, (told past past_size time a b e).later_is)
+
+    pub in_past : 0 < b → Past (b - 1) ≡ answer
+    in_past h = sym (both_sound ∙ rw (lt-ltb 0 b h))
+
+    pub in_forecast : b ≤ 0 → row_size ≤ forecast_size → Forecast 0 ≡ answer
+    in_forecast h k = sym (both_sound ∙ rw (le-ltb 0 b h, lt-ltb 0 (rows_in forecast_size) (omega arith)))
+
+    pub nowhere : b ≤ 0 → forecast_size < row_size → Refused NoSet ≡ answer
+    nowhere h k = sym (both_sound ∙ rw (le-ltb 0 b h, le-ltb 0 (rows_in forecast_size) (omega arith)))
 
   -- ---- what an answer tells
 

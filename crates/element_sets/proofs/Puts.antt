@@ -8,7 +8,8 @@ use lib.ListN.{length, take, drop}
 use lib.Seq.{sets}
 use lib.Dec.{ltb}
 use borrow.Author.Tests.{lt-ltb, le-ltb, ltb-false}
-use Rattle.refusal.specs.declared.Refusal.TheVariants.{Room}
+use Rattle.refusal.specs.declared.Refusal.{Refusal}
+use Rattle.refusal.specs.declared.Refusal.TheVariants.{Table, Room}
 use Rattle.elements.specs.Elements.{checked}
 use Rattle.elements.specs.declared.Elements.{Elements}
 use Rattle.elements.specs.declared.Verdict.{Verdict}
@@ -22,7 +23,15 @@ use Rattle.element_sets.specs.Putting.{end_with, putting_of, putting, with_set}
 use Rattle.element_sets.proofs.Sound.{told}
 
 module _ (el : Elements) (buffer : List ℕ) (size : ℕ) where
+  pub put_refused : {r : Refusal} → checked el ≡ verdict.Refused r → Refused r ≡ putting el buffer size
+  unfolding putting
+  put_refused e = rw e
+
   module _ (passed : checked el ≡ verdict.Passed) where
+    pub put_broken : scanned buffer size el.epoch ≡ Broken → Refused Table ≡ putting el buffer size
+    unfolding putting
+    put_broken e = rw (passed, e)
+
     module _ {earlier later : ℕ} (e : scanned buffer size el.epoch ≡ Sound earlier later) where
       pub put_roomless : length buffer < end_with earlier later size → Refused Room ≡ putting el buffer size
       unfolding putting

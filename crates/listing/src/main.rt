@@ -90,9 +90,11 @@ fn print_refusal(rt: &impl Print, refusal: Refusal, place: u32) -> io::Result<()
     println!(rt; "refused {number} at {place}")
 }
 
+// Standard output has its line also where standard error can't be written.
 fn print_failure(rt: &(impl Print + Eprint)) -> io::Result<()> {
-    eprintln!(rt; "listing: standard input could not be read to its end")?;
-    println!(rt; "failed")
+    let told = eprintln!(rt; "listing: standard input could not be read to its end");
+    println!(rt; "failed")?;
+    told
 }
 
 fn print_labels(rt: &impl Print, file: &[u8], form: Form, counts: Counts) -> io::Result<()>

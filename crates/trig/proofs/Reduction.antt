@@ -21,7 +21,7 @@ x_high K g b D r pi P x hb hr h k =
     (simp ring (omega (arith, simp ring at (mul-le-mul_left (K * D) h), simp ring at (mul-le-mul_left r k), simp ring at (mul-le-mul_left (g * D) hr))))
     hb
 
--- z is x·x / b cut down, against N-as-N / (D-as-D)
+-- z is x·x / b cut down, against N·N / (D·D)
 z_low : (b D N x z : ℕ) → zero < b → z * b ≤ x * x → x * D ≤ N * b → z * (D * D) ≤ N * N * b
 z_low b D N x z hb h x1 =
     le_of_mul-le-mul_right {k = b}
