@@ -35,11 +35,11 @@ position_bytes p = bytes8 (of_z w64 p.x) ++ bytes8 (of_z w64 p.y) ++ bytes8 (of_
 -- 68 bytes: the revolution, E with the halvings made, the radius, the celestial position, the node as drifted, the Earth-fixed position.
 -- The radius is nowhere negative: it is not below the perigee distance.
 unfoldable pub state_bytes : State → Position → List ℕ
-state_bytes s earth-fixed =
+state_bytes s earth_fixed =
     words (of_z w32 s.revolution ∷ s.anomaly.angle ∷ s.anomaly.halvings ∷ nat_abs s.radius ∷ [])
     ++ position_bytes s.position
     ++ bytes4 s.node
-    ++ position_bytes earth-fixed
+    ++ position_bytes earth_fixed
 
 -- 20 bytes: labels, training labels, test labels, dark labels, dark test labels
 unfoldable pub counts_bytes : Counts → List ℕ

@@ -15,9 +15,9 @@ found_among past forecast = cond (ltb 0 past) (Past (past - 1)) (cond (ltb 0 for
 
 -- 21 for either table, then 23
 unfoldable pub finding : List ℕ → ℕ → List ℕ → ℕ → ℤ → Finding
-finding past pastSize forecast forecastSize time =
-    cond (is_table_in past pastSize && is_table_in forecast forecastSize)
-    (found_among (up_to (take pastSize past) time) (rows_in forecastSize))
+finding past past_size forecast forecast_size time =
+    cond (is_table_in past past_size && is_table_in forecast forecast_size)
+    (found_among (up_to (take past_size past) time) (rows_in forecast_size))
     (Refused Table)
 
 -- the number beside the answer

@@ -1,4 +1,4 @@
--- Division of signed numbers: document 01, "Units". A quotient cut toward zero is `lib.Signed.quot_z`; this file has the one that is
+-- Division of signed numbers: document 01, "Units". A quotient cut toward zero is the library's `quot_z`; this file has the one that is
 -- rounded down, and the mod that is never negative. Assumes nothing.
 use Rattle.std.specs.Prelude.{ℕ, suc, ◌-◌, ◌/◌, ◌%◌, ℤ, pos, negsuc}
 

@@ -74,9 +74,9 @@ module _ (el : Elements) (one two : List ℕ) (alike : AlikeDays el one two) whe
   pub same_leading : leading (passes_at el one) (records one) ≡ leading (passes_at el two) (records two)
   same_leading = leading_same (passes_at el one) (passes_at el two) (records one) passing_same ∙ ap (leading (passes_at el two)) same_number
 
-  pub same_counts_lem : counts_of (label_at el one) (records one) ≡ counts_of (label_at el two) (records two)
+  pub same_counts : counts_of (label_at el one) (records one) ≡ counts_of (label_at el two) (records two)
   unfolding label_at
-  same_counts_lem =
+  same_counts =
       counts_alike (label_at el one) (label_at el two) (records one) (λ k b. same_counted el (record_at one k) (record_at two k) (alike.alike_records k b))
       ∙ ap (counts_of (label_at el two)) same_number
 
@@ -126,7 +126,7 @@ pending_part bytes packet rest =
 
 pub pending_alike : (el : Elements) (bytes bytes' packet packet' rest rest' : List ℕ) → length bytes ≡ length bytes' → length packet ≡ length packet' → AlikeDays el (bytes ++ (packet ++ rest)) (bytes' ++ (packet' ++ rest'))
     → AlikeDays el (unfinished bytes ++ packet) (unfinished bytes' ++ packet')
-pending_alike el bytes bytes' packet packet' rest rest' as_long packet-as-long alike =
+pending_alike el bytes bytes' packet packet' rest rest' as_long packet_as_long alike =
     let n = records bytes in
     let m = length (unfinished bytes ++ packet) in
     let lengths = length-append (unfinished bytes) packet in

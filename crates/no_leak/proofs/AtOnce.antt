@@ -20,12 +20,12 @@ use Rattle.labelling.specs.Records.{records, label_at, passes_at, telemetry_refu
 use Rattle.labelling.specs.Day.{labelling, output_after}
 use Rattle.labelling.specs.declared.Labelling.{Labelling}
 use Rattle.labelling.specs.declared.Labelling.TheVariants.{Labelled, Refused}
-use Rattle.labelling.proofs.PassedRecords.{PassedDay, day_passed, record_passes}
+use Rattle.labelling.proofs.PassedRecords.{PassedDay, day_passed, day_passes}
 use Rattle.labelling.proofs.WrittenFile.{output_is}
 use Rattle.no_leak.specs.Alike.{AlikeDays}
 use Rattle.no_leak.specs.Files.{SameFiles, FilesBy}
 use Rattle.no_leak.specs.AtOnce.{AtOnce}
-use Rattle.no_leak.proofs.AlikeRecords.{same_number, same_leading, same_counts_lem, rules_one, rules_two, same_training}
+use Rattle.no_leak.proofs.AlikeRecords.{same_number, same_leading, same_counts, rules_one, rules_two, same_training}
 use Rattle.no_leak.proofs.FilesInBuffers.{files_alike}
 
 pub labels_number : (el : Elements) (telemetry : List ℕ) (room : ℕ) (counts : Counts) (size : ℕ) → labelling el telemetry room ≡ Labelled counts size → counts.labels ≡ records telemetry
@@ -39,7 +39,7 @@ module _ (el : Elements) (one two : List ℕ) (alike : AlikeDays el one two) whe
   same_answer same_room =
       let long = alike.same_length in
       let passed = same_leading el one two alike in
-      let counts = same_counts_lem el one two alike in
+      let counts = same_counts el one two alike in
       λ i.
       let n = long i / record_size in
       let labels = no_counts.labels + n in
@@ -55,8 +55,7 @@ module _ (el : Elements) (one two : List ℕ) (alike : AlikeDays el one two) whe
     day = day_passed el one room counts size labelled
 
     passing : (k : ℕ) → k < records one → passes_at el one k ≡ true
-    unfolding passes_at
-    passing = record_passes el 0 no_counts one room counts size day.records
+    passing = day_passes day
 
     few : records one ≤ 1024
     unfolding no_counts

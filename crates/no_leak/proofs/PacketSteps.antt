@@ -35,22 +35,22 @@ use Rattle.packets.proofs.Steps.{taken_whole}
 use Rattle.no_leak.specs.Alike.{AlikeDays}
 use Rattle.no_leak.specs.Files.{SameTraining}
 use Rattle.no_leak.specs.Packets.{AlikeStates, SameSizes, outcome_of, OnePacket, GivenAlike, SameTaken, ManyPackets, Closing}
-use Rattle.no_leak.proofs.AlikeRecords.{same_number, same_leading, same_counts_lem, rules_one, rules_two, same_training}
+use Rattle.no_leak.proofs.AlikeRecords.{same_number, same_leading, same_counts, rules_one, rules_two, same_training}
 use Rattle.no_leak.proofs.FilesInBuffers.{parts_alike}
 
 -- ---- states
 
 pub states_refl : (d : Day) → AlikeStates d d
-states_refl d = record { same_elements = refl; same_counts_lem = refl; same_closed = refl; same_have = refl }
+states_refl d = record { same_elements = refl; same_counts = refl; same_closed = refl; same_have = refl }
 
 allowed_alike : (d e : Day) → AlikeStates d e → day_allowed d ≡ day_allowed e
 unfolding day_allowed
 allowed_alike d e s =
-    λ i. not (s.same_closed i) && is_passed (checked (s.same_elements i)) && leb (s.same_have i) 15 && leb (s.same_counts_lem i).labels 1_024 && counts_allowed (s.same_counts_lem i)
+    λ i. not (s.same_closed i) && is_passed (checked (s.same_elements i)) && leb (s.same_have i) 15 && leb (s.same_counts i).labels 1_024 && counts_allowed (s.same_counts i)
 
 closed_alike : (d e : Day) → AlikeStates d e → AlikeStates (closed_day d) (closed_day e)
 unfolding closed_day
-closed_alike d e s = record { same_elements = s.same_elements; same_counts_lem = s.same_counts_lem; same_closed = refl; same_have = s.same_have }
+closed_alike d e s = record { same_elements = s.same_elements; same_counts = s.same_counts; same_closed = refl; same_have = s.same_have }
 
 -- what 24 leaves of a state, whatever bytes are held: it does not look at them
 pub allowed_bare : (d : Day) → day_allowed d ≡ true → AllowedDay (record { elements = d.elements; counts = d.counts; closed = d.closed; have = d.have; held = replicate 15 0 })
@@ -110,10 +110,10 @@ module _ (d e : Day) (g h : Given) (states : AlikeStates d e) (sizes : SameSizes
   next : AlikeStates (next_day d g.packet) (next_day e h.packet)
   unfolding next_day
   next =
-      let counted = same_counts_lem d.elements one two alike ∙ ap (λ (el : Elements). counts_of (label_at el two) (records two)) states.same_elements in
+      let counted = same_counts d.elements one two alike ∙ ap (λ (el : Elements). counts_of (label_at el two) (records two)) states.same_elements in
       record {
         same_elements = states.same_elements;
-        same_counts_lem = λ i. states.same_counts_lem i plus counted i;
+        same_counts = λ i. states.same_counts i plus counted i;
         same_closed = refl;
         same_have = omega (arith, length-drop (record_size * records one) one, length-drop (record_size * records two) two, alike.same_length);
       }
@@ -126,7 +126,7 @@ module _ (d e : Day) (g h : Given) (states : AlikeStates d e) (sizes : SameSizes
       let lead = leading (passes_at d.elements one) n in
       let allowed = allowed_alike d e states in
       subst (AlikeSteps (packet_step d g.packet (length g.output)))
-      (λ i. step_by (not (allowed i)) (ltb 1_024 ((states.same_counts_lem i).labels + number i)) (ltb (sizes.same_room i) (label_size * number i)) (ltb (passed i) (number i)) ((states.same_counts_lem i).labels + passed i) e (next_day e h.packet))
+      (λ i. step_by (not (allowed i)) (ltb 1_024 ((states.same_counts i).labels + number i)) (ltb (sizes.same_room i) (label_size * number i)) (ltb (passed i) (number i)) ((states.same_counts i).labels + passed i) e (next_day e h.packet))
       (steps_alike (not (day_allowed d)) (ltb 1_024 (before + n)) (ltb (length g.output) (label_size * n)) (ltb lead n) (before + lead) d e (next_day d g.packet) (next_day e h.packet) states next)
 
   training_labels : outcome_of d g ≡ Accepted → SameTraining (packet_output d g.packet g.output) (packet_output e h.packet h.output) (completed d g.packet)
@@ -173,5 +173,5 @@ closing d e last last' s same_room =
     λ x l a. ap (λ (o : Outcome). take (trailer_size Bytes24) (output_by o (trailer_bytes Bytes24 x.counts) l)) a ∙ take_at (trailer_bytes Bytes24 x.counts) _ (trailer_size Bytes24) (trailer_length Bytes24 x.counts) in
     record {
       same_outcome = same;
-      same_trailer = λ a. trailer d last a ∙ ap (trailer_bytes Bytes24) s.same_counts_lem ∙ sym (trailer e last' (sym same ∙ a));
+      same_trailer = λ a. trailer d last a ∙ ap (trailer_bytes Bytes24) s.same_counts ∙ sym (trailer e last' (sym same ∙ a));
     }

@@ -20,7 +20,7 @@ use Rattle.no_leak.specs.Files.{SameTraining, SameFiles}
 -- the same but for the bytes held, and as many of these
 pub record AlikeStates (d e : Day) : Type 0 where
   pub same_elements : d.elements ≡ e.elements
-  pub same_counts_lem : d.counts ≡ e.counts
+  pub same_counts : d.counts ≡ e.counts
   pub same_closed : d.closed ≡ e.closed
   pub same_have : d.have ≡ e.have
 

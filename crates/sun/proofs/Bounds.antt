@@ -5,6 +5,7 @@ use mir.Facts.{to_z_pos}
 use Rattle.integer.specs.Bound.{Within}
 use Rattle.integer.proofs.Bounds.{within_add, within_mul, within_quot, within_more, within_pos}
 use Rattle.trig.specs.Angle.{angle_of}
+use Rattle.trig.proofs.Angles.{angle_below}
 use Rattle.trig.proofs.Quarters.{S-within, C-within}
 use Rattle.sun.specs.Sun.{scaled, centre_of, direction_of}
 use Rattle.sun.specs.Contract.{CentreAt, WithinOne, DirectionAt}
@@ -23,10 +24,6 @@ pub within_scaled : {a s : ℤ} → Within (2 ^ 30) a → Within (2 ^ 30) s → 
 within_scaled h k = within_more (within_quot (2 ^ 30) (within_mul h k)) (lit≤ tt)
 
 -- the equation of the centre is below two turns
-angle_below : (d : ℕ) → angle_of d < 2 ^ 32
-unfolding angle_of
-angle_below d = omega arith
-
 pub centre_within : (ma : ℕ) → Within (2 ^ 33) (centre_of ma)
 unfolding centre_of
 centre_within ma =

@@ -1,7 +1,7 @@
 -- The numbers that every time shares, and that the code has as constants: the checker computes each. Assumes nothing.
 use Rattle.std.proofs.Common.{◌≡◌, pos, refl}
 use Rattle.trig.specs.Angle.{angle_of}
-use Rattle.trig.specs.Sine.{S, C, inQuarter, quarter_sine, uncapped, series, horner_step, square, radians}
+use Rattle.trig.specs.Sine.{S, C, in_quarter, quarter_sine, uncapped, series, horner_step, square, radians}
 
 pub record Constants : Type 0 where
   pub mean_anomaly_at_epoch : angle_of 3_566_349 ≡ 4_254_820_089
@@ -12,7 +12,7 @@ pub record Constants : Type 0 where
   pub obliquity_sine : S (angle_of 234_406) ≡ pos 427_132_473
 
 pub constants : Constants
-unfolding angle_of S C inQuarter quarter_sine uncapped series horner_step square radians
+unfolding angle_of S C in_quarter quarter_sine uncapped series horner_step square radians
 constants =
     record {
       mean_anomaly_at_epoch = refl;

@@ -5,7 +5,7 @@ use native.Mathlib.Decide.{dec_lt}
 use native.Mathlib.Nat.{lt_of_not-le}
 use native.Mathlib.Omega.{arith}
 use lib.IntN.{ℤ, pos, neg_ℤ}
-use Rattle.trig.specs.Sine.{quarter_sine, bySymmetry, S}
+use Rattle.trig.specs.Sine.{quarter_sine, by_symmetry, S}
 use Rattle.trig.specs.ExactSine.{Fraction, opposite, quarter_end19, quarter_end17, end19, end17, Near, NearZ, NearSine}
 use Rattle.trig.proofs.Quarters.{arc, arc_le, upper, lower, S-upper, S-lower}
 use Rattle.trig.proofs.Cap.{quarter_near19, quarter_near17}
@@ -24,13 +24,13 @@ near_lower z zero f e h = near_opposite zero f (rw e at h)
 near_lower z (suc n) f e h = rw e at h
 
 module _ (quarter_end : ℕ → Fraction) (near : (r : ℕ) → r ≤ 2 ^ 30 → Near (quarter_sine r) (quarter_end r)) where
-  by_symmetry : (a : ℕ) → NearZ (S a) (bySymmetry a (λ r. quarter_end r) (λ r. opposite (quarter_end r)))
-  by_symmetry a = either (dec_lt (a % 2 ^ 32) (2 ^ 31))
+  near_by_symmetry : (a : ℕ) → NearZ (S a) (by_symmetry a (λ r. quarter_end r) (λ r. opposite (quarter_end r)))
+  near_by_symmetry a = either (dec_lt (a % 2 ^ 32) (2 ^ 31))
     where
       n : Near (quarter_sine (arc a)) (quarter_end (arc a))
       n = near (arc a) (arc_le a)
 
-      either : Dec (a % 2 ^ 32 < 2 ^ 31) → NearZ (S a) (bySymmetry a (λ r. quarter_end r) (λ r. opposite (quarter_end r)))
+      either : Dec (a % 2 ^ 32 < 2 ^ 31) → NearZ (S a) (by_symmetry a (λ r. quarter_end r) (λ r. opposite (quarter_end r)))
       either (yes h) = rw (S-upper a h, upper a quarter_end (λ r. opposite (quarter_end r)) h) n
       either (no g) =
           let h : 2 ^ 31 ≤ a % 2 ^ 32 = omega (arith, lt_of_not-le g) in
@@ -39,4 +39,4 @@ module _ (quarter_end : ℕ → Fraction) (near : (r : ℕ) → r ≤ 2 ^ 30 →
 pub S-near : (a : ℕ) → NearSine a (S a)
 unfolding end19 end17
 S-near a =
-    record { to19 = by_symmetry quarter_end19 quarter_near19 a; to17 = by_symmetry quarter_end17 quarter_near17 a }
+    record { to19 = near_by_symmetry quarter_end19 quarter_near19 a; to17 = near_by_symmetry quarter_end17 quarter_near17 a }

@@ -1,3 +1,4 @@
+pub mod Angles
 pub mod Quarters
 pub mod Products
 pub mod Horner

@@ -8,7 +8,7 @@ use lib.Arith.{mod-mul}
 use lib.IntN.{pos, neg_ℤ, nat_abs}
 use Rattle.integer.specs.Bound.{Within}
 use Rattle.integer.proofs.Sizes.{nat_abs_neg}
-use Rattle.trig.specs.Sine.{quarter_sine, inQuarter, bySymmetry, S, C}
+use Rattle.trig.specs.Sine.{quarter_sine, in_quarter, by_symmetry, S, C}
 use Rattle.trig.proofs.Products.{quarter_sine_le}
 
 -- how far a part of a turn is from the nearer of its ends and its half
@@ -24,18 +24,18 @@ unfolding arc
 arc_le a = let t : ℕ = a % 2 ^ 32 in omega arith
 
 -- quarter q and rest r of the part t of a turn
-upper-quarter {ℓ} : {A : Type ℓ} (f g : ℕ → A) (q r t : ℕ) → t ≡ q * 2 ^ 30 + r → r < 2 ^ 30 → t < 2 ^ 31 → inQuarter q r f g ≡ f (arc_of t)
-unfolding inQuarter
-upper-quarter f g zero r t e h k = let i : r ≡ arc_of t = omega arith in ap f i
-upper-quarter f g (suc zero) r t e h k = let i : 2 ^ 30 - r ≡ arc_of t = omega arith in ap f i
-upper-quarter f g (suc (suc q)) r t e h k = absurd (omega arith)
+upper_quarter {ℓ} : {A : Type ℓ} (f g : ℕ → A) (q r t : ℕ) → t ≡ q * 2 ^ 30 + r → r < 2 ^ 30 → t < 2 ^ 31 → in_quarter q r f g ≡ f (arc_of t)
+unfolding in_quarter
+upper_quarter f g zero r t e h k = let i : r ≡ arc_of t = omega arith in ap f i
+upper_quarter f g (suc zero) r t e h k = let i : 2 ^ 30 - r ≡ arc_of t = omega arith in ap f i
+upper_quarter f g (suc (suc q)) r t e h k = absurd (omega arith)
 
-lower-quarter {ℓ} : {A : Type ℓ} (f g : ℕ → A) (q r t : ℕ) → t ≡ q * 2 ^ 30 + r → r < 2 ^ 30 → 2 ^ 31 ≤ t → t < 2 ^ 32 → inQuarter q r f g ≡ g (arc_of t)
-unfolding inQuarter
-lower-quarter f g zero r t e h k l = absurd (omega arith)
-lower-quarter f g (suc zero) r t e h k l = absurd (omega arith)
-lower-quarter f g (suc (suc zero)) r t e h k l = let i : r ≡ arc_of t = omega arith in ap g i
-lower-quarter f g (suc (suc (suc q))) r t e h k l =
+lower_quarter {ℓ} : {A : Type ℓ} (f g : ℕ → A) (q r t : ℕ) → t ≡ q * 2 ^ 30 + r → r < 2 ^ 30 → 2 ^ 31 ≤ t → t < 2 ^ 32 → in_quarter q r f g ≡ g (arc_of t)
+unfolding in_quarter
+lower_quarter f g zero r t e h k l = absurd (omega arith)
+lower_quarter f g (suc zero) r t e h k l = absurd (omega arith)
+lower_quarter f g (suc (suc zero)) r t e h k l = let i : r ≡ arc_of t = omega arith in ap g i
+lower_quarter f g (suc (suc (suc q))) r t e h k l =
     let z : q ≡ 0 = omega arith in
     let m : t % 2 ^ 31 ≡ 2 ^ 30 + r = omega arith in
     let i : 2 ^ 30 - r ≡ arc_of t = omega arith in
@@ -46,13 +46,13 @@ module _ (a : ℕ) where
   parts = mod-mul a {m = 4} {c = 2 ^ 30} (omega arith) (omega arith)
 
   -- in the first half of the turn it is f at the arc, in the second g
-  pub upper {ℓ} : {A : Type ℓ} (f g : ℕ → A) → a % 2 ^ 32 < 2 ^ 31 → bySymmetry a f g ≡ f (arc a)
+  pub upper {ℓ} : {A : Type ℓ} (f g : ℕ → A) → a % 2 ^ 32 < 2 ^ 31 → by_symmetry a f g ≡ f (arc a)
   unfolding arc
-  upper f g h = upper-quarter f g (a / 2 ^ 30 % 4) (a % 2 ^ 30) (a % 2 ^ 32) parts (mod-lt a (omega arith)) h
+  upper f g h = upper_quarter f g (a / 2 ^ 30 % 4) (a % 2 ^ 30) (a % 2 ^ 32) parts (mod-lt a (omega arith)) h
 
-  pub lower {ℓ} : {A : Type ℓ} (f g : ℕ → A) → 2 ^ 31 ≤ a % 2 ^ 32 → bySymmetry a f g ≡ g (arc a)
+  pub lower {ℓ} : {A : Type ℓ} (f g : ℕ → A) → 2 ^ 31 ≤ a % 2 ^ 32 → by_symmetry a f g ≡ g (arc a)
   unfolding arc
-  lower f g h = lower-quarter f g (a / 2 ^ 30 % 4) (a % 2 ^ 30) (a % 2 ^ 32) parts (mod-lt a (omega arith)) h (mod-lt a (omega arith))
+  lower f g h = lower_quarter f g (a / 2 ^ 30 % 4) (a % 2 ^ 30) (a % 2 ^ 32) parts (mod-lt a (omega arith)) h (mod-lt a (omega arith))
 
   pub S-upper : a % 2 ^ 32 < 2 ^ 31 → S a ≡ pos (quarter_sine (arc a))
   unfolding S

@@ -1,7 +1,7 @@
 -- The exact sine over whole numbers, and how near to it a sine is: document 01, "The sheet sine". Assumes nothing.
 use Rattle.std.specs.Prelude.{ℕ, zero, suc, ◌+◌, ◌*◌, ◌-◌, ◌/◌, ◌^◌, ◌≤◌, ◌≡◌, ℤ, pos, negsuc}
 use Rattle.integer.specs.Bound.{Within}
-use Rattle.trig.specs.Sine.{bySymmetry, S}
+use Rattle.trig.specs.Sine.{by_symmetry, S}
 
 -- the two ends of π, each times 10^20
 abbrev pub pi_low : ℕ
@@ -53,10 +53,10 @@ quarter_end17 r = record { p = plus 17 (r * pi_high); m = minus 17 (r * pi_high)
 
 -- the two ends of the exact sine of any angle, by symmetry
 unfoldable pub end19 : ℕ → Fraction
-end19 a = bySymmetry a (λ r. quarter_end19 r) (λ r. opposite (quarter_end19 r))
+end19 a = by_symmetry a (λ r. quarter_end19 r) (λ r. opposite (quarter_end19 r))
 
 unfoldable pub end17 : ℕ → Fraction
-end17 a = bySymmetry a (λ r. quarter_end17 r) (λ r. opposite (quarter_end17 r))
+end17 a = by_symmetry a (λ r. quarter_end17 r) (λ r. opposite (quarter_end17 r))
 
 -- s units of 2^-30 are within 4 units of f; both sides times f's denominator
 pub record Near (s : ℕ) (f : Fraction) : Type 0 where

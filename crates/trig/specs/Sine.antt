@@ -33,19 +33,19 @@ unfoldable pub quarter_sine : ℕ → ℕ
 quarter_sine r = min (uncapped r) (2 ^ 30)
 
 -- at quarter q and rest r of a turn: `upper` in the first half of the turn, `lower` in the second, each at r or at 2^30 - r
-unfoldable pub inQuarter {ℓ} : {A : Type ℓ} → ℕ → ℕ → (ℕ → A) → (ℕ → A) → A
-inQuarter zero r upper lower = upper r
-inQuarter (suc zero) r upper lower = upper (2 ^ 30 - r)
-inQuarter (suc (suc zero)) r upper lower = lower r
-inQuarter (suc (suc (suc n))) r upper lower = lower (2 ^ 30 - r)
+unfoldable pub in_quarter {ℓ} : {A : Type ℓ} → ℕ → ℕ → (ℕ → A) → (ℕ → A) → A
+in_quarter zero r upper lower = upper r
+in_quarter (suc zero) r upper lower = upper (2 ^ 30 - r)
+in_quarter (suc (suc zero)) r upper lower = lower r
+in_quarter (suc (suc (suc n))) r upper lower = lower (2 ^ 30 - r)
 
 -- what holds of an angle by symmetry from the first quarter; a whole turn is as 0
-abbrev pub bySymmetry {ℓ} : {A : Type ℓ} → ℕ → (ℕ → A) → (ℕ → A) → A
-bySymmetry a upper lower = inQuarter (a / 2 ^ 30 % 4) (a % 2 ^ 30) upper lower
+abbrev pub by_symmetry {ℓ} : {A : Type ℓ} → ℕ → (ℕ → A) → (ℕ → A) → A
+by_symmetry a upper lower = in_quarter (a / 2 ^ 30 % 4) (a % 2 ^ 30) upper lower
 
 -- S: the sine, with the sign of its half of the turn
 unfoldable pub S : ℕ → ℤ
-S a = bySymmetry a (λ r. pos (quarter_sine r)) (λ r. neg_ℤ (pos (quarter_sine r)))
+S a = by_symmetry a (λ r. pos (quarter_sine r)) (λ r. neg_ℤ (pos (quarter_sine r)))
 
 -- C: the cosine, the sine a quarter turn on
 unfoldable pub C : ℕ → ℤ

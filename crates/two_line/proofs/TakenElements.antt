@@ -11,7 +11,7 @@ use Rattle.refusal.specs.declared.Refusal.{Refusal}
 use Rattle.refusal.specs.declared.Refusal.TheVariants as refusal
 use Rattle.integer.specs.Bound.{Within}
 use Rattle.integer.proofs.Bounds.{within_pos, within_sub, within_more}
-use Rattle.trig.specs.Angle.{angle_of}
+use Rattle.trig.proofs.Angles.{angle_below}
 use Rattle.elements.specs.Elements.{checked}
 use Rattle.elements.specs.declared.Elements.{Elements}
 use Rattle.elements.specs.declared.Verdict.{Verdict}
@@ -59,10 +59,6 @@ module _ (first second : List ℕ) (axis : ℕ) (node_rate perigee_rate : ℤ) (
 
 -- ---- what their types hold
 
-angle_held : (d : ℕ) → angle_of d < 2 ^ 32
-unfolding angle_of
-angle_held d = omega arith
-
 moved_held : (angle amount : ℕ) → angle < 2 ^ 32 → moved_back angle amount < 2 ^ 32
 unfolding moved_back
 moved_held angle amount h = go (ltb angle amount) (ltb-true angle amount)
@@ -82,9 +78,9 @@ pub angles_held : (first second : List ℕ) (axis : ℕ) (node_rate perigee_rate
 unfolding taken taken_with epoch_of
 angles_held first second axis node_rate perigee_rate =
     record {
-      inclination = angle_held _;
-      node = angle_held _;
-      argument_of_perigee = angle_held _;
-      mean_anomaly = moved_held _ _ (angle_held _);
+      inclination = angle_below _;
+      node = angle_below _;
+      argument_of_perigee = angle_below _;
+      mean_anomaly = moved_held _ _ (angle_below _);
       epoch = within_more (within_sub (within_pos {a = 2 ^ 32} {n = seconds_of first} (omega (arith, seconds_small first))) (within_pos {a = 2 ^ 32} {n = 1_041_379_200} (omega arith))) (omega arith);
     }

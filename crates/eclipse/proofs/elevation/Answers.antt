@@ -13,6 +13,6 @@ returns c =
     let n = c.normal-n in
     let w = n.ensures.small in
     let d = c.dot in
-    let dot-is = rw (read_within w.x_within tt, read_within w.y_within tt, read_within w.z_within tt) at d.ensures in
+    let dot_is = rw (read_within w.x_within tt, read_within w.y_within tt, read_within w.z_within tt) at d.ensures in
     let held_at = rw (read_back d.result d.type_inv) at c.held.ensures in
-    rw (to_z-of_z (overflow_cast-result c), read_within held_at.small tt) (elevation_at n.ensures dot-is held_at)
+    rw (to_z-of_z (overflow_cast-result c), read_within held_at.small tt) (elevation_at n.ensures dot_is held_at)

@@ -20,9 +20,6 @@ module _ (radius : ℤ → ℤ) (within : (s : ℤ) → Within (2 ^ 24) s → Ra
   fits : {s : ℤ} → Within (2 ^ 24) s → SFits w64 (radius (to_z w64 (of_z w64 s)))
   fits h = rw (read_within h tt) (sfits_within (within _ h) tt)
 
-  bound : {s : ℤ} → Within (2 ^ 24) s → RadiusBound (to_z w64 (of_z w64 (radius (to_z w64 (of_z w64 s)))))
-  bound h = rw (read_within h tt, read_within (within _ h) tt) (within _ h)
-
   told : {b : Bool} {d k s side : ℤ} → SFits w64 d → SFits w64 side → SpreadAt (to_z w64 (of_z w64 d)) k s
       → b ≡ below_square (to_z w64 (of_z w64 side)) (to_z w64 (of_z w64 (radius (to_z w64 (of_z w64 s))))) → b ≡ below_square side (radius (spread d k))
   told f g h e = rw (to_z-of_z g, read_within h.small tt, read_within (within _ h.small) tt, h.is, to_z-of_z f) at e

@@ -13,7 +13,7 @@ use Rattle.integer.proofs.Bounds.{sfits_within}
 use Rattle.integer.proofs.Division.{mod_below, floor_scaled, whole_within}
 use Rattle.integer.proofs.Sizes.{mag_nat_abs}
 use Rattle.integer.proofs.floor_scaled.Goals as goal
-use Rattle.integer.proofs.floor_scaled.Goals.{After-floor_div-whole, After-struct_told-1, Start}
+use Rattle.integer.proofs.floor_scaled.Goals.{After-floor_div-whole, Start}
 
 pub floor_div-whole-requires : goal.floor_div-whole-requires
 floor_div-whole-requires c = c.requires.divisor
@@ -48,33 +48,33 @@ scale_le s =
 pub overflow_cast-result : goal.overflow_cast-result
 overflow_cast-result c = record { sfits = omega (arith, scale_le c.before.before) }
 
-whole_is : (c : After-floor_div-whole) → let a = c.before.args in to_z w64 (of_z w64 c.floor_div-whole.result.quotient) *ℤ to_z w64 a.scale ≡ floor_z a.x a.d *ℤ pos a.scale
+whole_is : (c : After-floor_div-whole) → to_z w64 (of_z w64 c.floor_div-whole.result.quotient) *ℤ to_z w64 c.args.scale ≡ floor_z c.args.x c.args.d *ℤ pos c.args.scale
 whole_is c =
     let fits : SFits w64 c.floor_div-whole.result.quotient = search rules in
-    let s = c.before in
-    rw (to_z-of_z fits, to_z_pos w64 {n = s.args.scale} (omega (arith, scale_le s)), rw (to_z-of_z s.ranges.x) at c.floor_div-whole.ensures.quotient_is)
+    rw (to_z-of_z fits, to_z_pos w64 {n = c.args.scale} (omega (arith, scale_le c.before)), rw (to_z-of_z c.ranges.x) at c.floor_div-whole.ensures.quotient_is)
+
+whole_fits : (c : After-floor_div-whole) → SFits w64 (to_z w64 (of_z w64 c.floor_div-whole.result.quotient) *ℤ to_z w64 c.args.scale)
+whole_fits c =
+    let a = c.args in
+    let w = whole_within a.x a.scale a.d c.requires.divisor c.requires.answer in
+    rw (whole_is c) (record { sfits = omega (arith, w.within, mag_nat_abs (floor_z a.x a.d *ℤ pos a.scale), part_le c.before) })
 
 pub overflow_mul-result : goal.overflow_mul-result
-overflow_mul-result c =
-    let f = c.before.before.before in
-    let s = f.before in
-    let w = whole_within s.args.x s.args.scale s.args.d s.requires.divisor s.requires.answer in
-    rw (whole_is f) (record { sfits = omega (arith, w.within, mag_nat_abs (floor_z s.args.x s.args.d *ℤ pos s.args.scale), part_le s) })
+overflow_mul-result c = whole_fits (goal.at.overflow_mul-result c).After-floor_div-whole
 
 pub overflow_cast-result-2 : goal.overflow_cast-result-2
 overflow_cast-result-2 c =
-    let f = c.before.before.before in
+    let f = (goal.at.overflow_cast-result-2 c).After-floor_div-whole in
     rw (remainder_is f) (record { sfits = omega (arith, part_le f.before) })
 
 -- ---- their sum
-sum_is : (c : After-struct_told-1) → let f = c.before.before.before in let a = f.before.args in to_z w64 (of_z w64 (to_z w64 (of_z w64 f.floor_div-whole.result.quotient) *ℤ to_z w64 a.scale)) +ℤ to_z w64 (f.floor_div-whole.result.remainder * a.scale / a.d) ≡ floor_z (a.x *ℤ pos a.scale) a.d
+sum_is : (c : After-floor_div-whole) → to_z w64 (of_z w64 (to_z w64 (of_z w64 c.floor_div-whole.result.quotient) *ℤ to_z w64 c.args.scale)) +ℤ to_z w64 (c.floor_div-whole.result.remainder * c.args.scale / c.args.d) ≡ floor_z (c.args.x *ℤ pos c.args.scale) c.args.d
 sum_is c =
-    let f = c.before.before.before in
-    let s = f.before in
-    rw (to_z-of_z (overflow_mul-result c), whole_is f, remainder_is f, to_z_pos w64 {n = part s} (omega (arith, part_le s))) (floor_scaled s.args.x s.args.scale s.args.d s.requires.divisor)
+    let a = c.args in
+    rw (to_z-of_z (whole_fits c), whole_is c, remainder_is c, to_z_pos w64 {n = part c.before} (omega (arith, part_le c.before))) (floor_scaled a.x a.scale a.d c.requires.divisor)
 
 pub overflow_add-result : goal.overflow_add-result
-overflow_add-result c = rw (sum_is c) (sfits_within c.before.before.before.before.requires.answer tt)
+overflow_add-result c = rw (sum_is (goal.at.overflow_add-result c).After-floor_div-whole) (sfits_within c.requires.answer tt)
 
 pub returns : goal.returns
-returns c = to_z-of_z (overflow_add-result c) ∙ sum_is c
+returns c = to_z-of_z (overflow_add-result c) ∙ sum_is (goal.at.returns c).After-floor_div-whole

@@ -18,7 +18,7 @@ use Rattle.elements.proofs.Accepted.{Accepted, accepted_at}
 use Rattle.orbit.proofs.Distances.{minor_le}
 use Rattle.orbit.proofs.Placements.{anomaly_is, state_is, state_at}
 use Rattle.orbit.proofs.state_at.Goals as goal
-use Rattle.orbit.proofs.state_at.Goals.{After-celestial, After-eccentric_anomaly-anomaly, After-of-perigee, After-of-sines, After-phase_at-phase, After-struct_told-1, Start}
+use Rattle.orbit.proofs.state_at.Goals.{After-celestial, After-eccentric_anomaly-anomaly, After-of-perigee, After-of-sines, After-phase_at-phase, Start}
 
 elements_accepted : (s : Start) → Accepted s.args.elements
 elements_accepted s = (accepted_at s.args.elements s.args.time s.requires.0).elements

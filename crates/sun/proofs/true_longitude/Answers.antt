@@ -16,5 +16,5 @@ pub returns : goal.returns
 unfolding true_longitude
 returns c =
     let e = c.before.centre in
-    let ml-is = read_angle c.before.before.args.mean_longitude (search rules) in
-    rw (to_z-of_z (overflow_add-mean_longitude c.before), ml-is, read_back e.result e.type_inv, e.ensures.is) at c.wrapped.ensures
+    let ml_is = read_angle c.before.before.args.mean_longitude (search rules) in
+    rw (to_z-of_z (overflow_add-mean_longitude c.before), ml_is, read_back e.result e.type_inv, e.ensures.is) at c.wrapped.ensures

@@ -1,23 +1,22 @@
 -- `trailer::find` meets its contract. Assumes nothing.
 use mathlib.Core.Path.{◌≡◌, ◌∙◌, sym, ap, subst}
-use Prim.Native.Nat.{ℕ, ◌-◌, ◌≤◌, ◌<◌}
+use Prim.Native.Nat.{ℕ, ◌-◌, ◌<◌}
 use native.Mathlib.Omega.{arith}
 use mathlib.Core.Bool.{Bool, cond}
 use lib.ListN.{length, take, drop, length-drop}
 use Rattle.endian.proofs.Slices.{rest_part}
 use mathlib.Core.List.{List}
-use Rattle.trailer.specs.declared.Counts.{Counts}
 use Rattle.trailer.specs.declared.Form.{Form}
 use Rattle.trailer.specs.declared.TrailerReading.TheVariants.{Allowed, Refused}
 use Rattle.trailer.specs.Trailer.{trailer_size, form_of, stated_counts, trailer_allowed, last_bytes, distance_in, trailer_at}
 use Rattle.trailer.proofs.Trailers.{size_bounds, trailer_short, trailer_tested}
 use Rattle.trailer.proofs.find.Goals as goal
+use Rattle.trailer.proofs.find.Goals.{After-allowed}
 
 pub returns-then-given-lt-SIZE_16 : goal.returns-then-given-lt-SIZE_16
 returns-then-given-lt-SIZE_16 c =
-    let a = c.before.before.args in
-    let last = a.last.now in
-    sym (trailer_short last a.size (omega (arith, c.if-given-lt-SIZE_16.true, size_bounds (form_of (distance_in last)))))
+    let last = c.args.last.now in
+    sym (trailer_short last c.args.size (omega (arith, c.if-given-lt-SIZE_16.true, size_bounds (form_of (distance_in last)))))
 
 pub returns-then-given-own : goal.returns-then-given-own
 returns-then-given-own c =
@@ -36,28 +35,20 @@ read_counts-stated-requires c =
     (omega (arith, length-drop (length last - trailer_size c.form_of-form.result) last, c.if-given-own.false, c.size-own.ensures))
 
 -- the test decides
-decides : (last : List ℕ) (size : ℕ) {form : Form} {counts : Counts} {t : Bool} → form ≡ form_of (distance_in last)
-    → counts ≡ stated_counts form (last_bytes (trailer_size form) last) → trailer_size form ≤ length last
-    → t ≡ trailer_allowed form counts (distance_in last) size → cond t (Allowed form counts) Refused ≡ trailer_at last size
-decides last size {form} {counts} f e h a =
-    ap (λ (t : Bool). cond t (Allowed form counts) Refused) a ∙ sym (trailer_tested last size f e h)
+decides : (c : After-allowed) {t : Bool} → c.allowed.result ≡ t
+    → cond t (Allowed c.form_of-form.result c.read_counts-stated.result) Refused ≡ trailer_at c.args.last.now c.args.size
+decides c e =
+    let last = c.args.last.now in
+    let form = c.form_of-form.result in
+    let counts = c.read_counts-stated.result in
+    let form_is = c.form_of-form.ensures ∙ ap form_of c.find_distance-distance.ensures in
+    let stated = c.read_counts-stated.ensures ∙ ap (stated_counts form) (rest_is last c.size-own.ensures) in
+    let tested = trailer_tested last c.args.size form_is stated (omega (arith, c.if-given-own.false, c.size-own.ensures)) in
+    let same = sym e ∙ c.allowed.ensures ∙ ap (λ (d : ℕ). trailer_allowed form counts d c.args.size) c.find_distance-distance.ensures in
+    ap (λ (t : Bool). cond t (Allowed form counts) Refused) same ∙ sym tested
 
 pub returns-then-allowed : goal.returns-then-allowed
-returns-then-allowed c =
-    let last = c.args.last.now in
-    let form = c.form_of-form.result in
-    let counts = c.read_counts-stated.result in
-    decides last c.args.size (c.form_of-form.ensures ∙ ap form_of c.find_distance-distance.ensures)
-    (c.read_counts-stated.ensures ∙ ap (stated_counts form) (rest_is last c.size-own.ensures))
-    (omega (arith, c.if-given-own.false, c.size-own.ensures))
-    (sym c.if-allowed.true ∙ c.allowed.ensures ∙ ap (λ (d : ℕ). trailer_allowed form counts d c.args.size) c.find_distance-distance.ensures)
+returns-then-allowed c = decides (goal.at.returns-then-allowed c).After-allowed c.if-allowed.true
 
 pub returns-else-allowed : goal.returns-else-allowed
-returns-else-allowed c =
-    let last = c.args.last.now in
-    let form = c.form_of-form.result in
-    let counts = c.read_counts-stated.result in
-    decides last c.args.size (c.form_of-form.ensures ∙ ap form_of c.find_distance-distance.ensures)
-    (c.read_counts-stated.ensures ∙ ap (stated_counts form) (rest_is last c.size-own.ensures))
-    (omega (arith, c.if-given-own.false, c.size-own.ensures))
-    (sym c.if-allowed.false ∙ c.allowed.ensures ∙ ap (λ (d : ℕ). trailer_allowed form counts d c.args.size) c.find_distance-distance.ensures)
+returns-else-allowed c = decides (goal.at.returns-else-allowed c).After-allowed c.if-allowed.false

@@ -12,7 +12,6 @@ use Rattle.trailer.specs.Trailer.{trailer_size, stated_counts}
 use Rattle.trailer.proofs.Trailers.{size_bounds}
 use Rattle.trailer.proofs.read_counts.Goals as goal
 
--- the bytes are at least 16
 sixteen : (form : Form) (bytes : List ℕ) → trailer_size form ≤ length bytes → 16 ≤ length bytes
 sixteen form bytes h = omega (arith, size_bounds form)
 
@@ -25,7 +24,6 @@ read_u32-training-requires c = omega (arith, sixteen _ _ c.requires)
 pub read_u32-test-requires : goal.read_u32-test-requires
 read_u32-test-requires c = omega (arith, sixteen _ _ c.requires)
 
--- of the trailer with the dark counts they are 24
 twenty_four : (form : Form) (bytes : List ℕ) → form ≡ Bytes24 → trailer_size form ≤ length bytes → 24 ≤ length bytes
 unfolding trailer_size
 twenty_four form bytes is h = subst (λ (f : Form). trailer_size f ≤ length bytes) is h

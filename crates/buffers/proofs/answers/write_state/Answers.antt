@@ -11,7 +11,7 @@ use Rattle.endian.proofs.Stores.{then, over_all}
 use Rattle.buffers.specs.Answers.{position_bytes, state_bytes}
 use borrow.Author.Rules.{rules}
 use Rattle.buffers.proofs.answers.write_state.Goals as goal
-use Rattle.buffers.proofs.answers.write_state.Goals.{After-magnitude, After-slice_known-1, After-write_words-arg-1, Start}
+use Rattle.buffers.proofs.answers.write_state.Goals.{After-magnitude, Start}
 
 fits : (s : Start) → let st = s.args.state in SFits w32 st.revolution × SFits w64 st.radius
 fits s = (search rules, search rules)

@@ -14,7 +14,7 @@ use Rattle.element_sets.proofs.Sound.{Told, told, told_one, told_rows}
 use Rattle.element_sets.proofs.Puts.{put_roomless, put_placed, set_stored}
 use borrow.Author.Rules.{rules}
 use Rattle.element_sets.proofs.insertion.put.Goals as goal
-use Rattle.element_sets.proofs.insertion.put.Goals.{After-scan_table-scan, In-Sound, Start}
+use Rattle.element_sets.proofs.insertion.put.Goals.{In-Sound}
 
 module _ (c : In-Sound) where
   epoch_fits : SFits w64 c.args.elements.epoch

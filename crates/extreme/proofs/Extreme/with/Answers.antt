@@ -1,5 +1,4 @@
--- `extreme::Extreme::with` meets its contract. Each arm returns what `keep` picks where the comparison is as the arm's test found it.
--- Assumes nothing.
+-- `extreme::Extreme::with` meets its contract. Assumes nothing.
 use mathlib.Core.Path.{sym, ◌∙◌}
 use Rattle.extreme.proofs.Extreme.with.Goals as goal
 
