@@ -4,12 +4,11 @@
 
 ghost use Rattle.sun.specs.Contract.{WithinOne};
 
-use eclipse::ShadeAnswer;
 use elements::Elements;
-use orbit::{Placement, State};
+use orbit::State;
 use shade::Shade;
 use std::{fmt, io};
-use sun::{Direction, Sun, SunAnswer};
+use sun::{Direction, Sun};
 use trig::{HALF_TURN, ONE, Sines, TURN};
 
 const EXAMPLE: i64 = -138_406_500;
@@ -93,12 +92,10 @@ fn of_state(rt: &impl Print, state: State, sun: Direction) -> io::Result<()> {
     println!(rt; "radius {metres} article 39582000 {verdict}")?;
     let shade = eclipse::shade_test(state.position, sun);
     match shade {
-        ShadeAnswer::Refused(_) => refused(rt),
-        ShadeAnswer::Shaded(seen) => match seen {
-            Shade::Lit => println!(rt; "lit"),
-            Shade::Dark => println!(rt; "dark"),
-            Shade::Part => println!(rt; "part"),
-        },
+        Err(_) => refused(rt),
+        Ok(Shade::Lit) => println!(rt; "lit"),
+        Ok(Shade::Dark) => println!(rt; "dark"),
+        Ok(Shade::Part) => println!(rt; "part"),
     }
 }
 
@@ -142,15 +139,15 @@ fn example(rt: &impl Print, sun: Sun) -> io::Result<()>
     let direction = sun.direction;
     let placement = orbit::position(elements, EXAMPLE);
     match placement {
-        Placement::Refused(_) => refused(rt),
-        Placement::Placed(state) => of_state(rt, state, direction),
+        Err(_) => refused(rt),
+        Ok(state) => of_state(rt, state, direction),
     }
 }
 
 fn main(rt: HostRuntime) -> io::Result<()> {
     let answer = sun::find(EXAMPLE);
     match answer {
-        SunAnswer::Refused(_) => refused(&rt),
-        SunAnswer::Found(sun) => example(&rt, sun),
+        Err(_) => refused(&rt),
+        Ok(sun) => example(&rt, sun),
     }
 }

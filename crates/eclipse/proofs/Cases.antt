@@ -10,7 +10,7 @@ use Rattle.position.specs.declared.Position.{Position}
 use Rattle.sun.specs.declared.Direction.{Direction}
 use Rattle.eclipse.specs.Shade.{projection, side_squared, shade_behind, shade_of, any_beyond, out_of_range, shade_answer}
 use Rattle.eclipse.specs.ShadeLaws.{SunwardLit}
-use Rattle.eclipse.specs.declared.ShadeAnswer.TheVariants.{Shaded, Refused}
+use Rattle.std.specs.Prelude.{Err, Ok}
 
 module _ (q : Position) (sun : Direction) (p : ℤ) (e : p ≡ projection q sun) where
   pub lit_before : lt_z p (pos 0) ≡ false → Lit ≡ shade_of q sun
@@ -25,16 +25,16 @@ pub sunward_lit : SunwardLit
 sunward_lit q sun = lit_before q sun _ refl
 
 module _ (q : Position) (sun : Direction) where
-  pub position_refused : any_beyond 200_000_000 q.x q.y q.z ≡ true → Refused Component ≡ shade_answer q sun
+  pub position_refused : any_beyond 200_000_000 q.x q.y q.z ≡ true → Err Component ≡ shade_answer q sun
   unfolding out_of_range shade_answer
   position_refused e = rw e
 
   pub sun_refused : any_beyond 200_000_000 q.x q.y q.z ≡ false → any_beyond (2 ^ 30) sun.x sun.y sun.z ≡ true
-      → Refused Component ≡ shade_answer q sun
+      → Err Component ≡ shade_answer q sun
   unfolding out_of_range shade_answer
   sun_refused e f = rw (e, f)
 
   pub shaded : any_beyond 200_000_000 q.x q.y q.z ≡ false → any_beyond (2 ^ 30) sun.x sun.y sun.z ≡ false
-      → Shaded (shade_of q sun) ≡ shade_answer q sun
+      → Ok (shade_of q sun) ≡ shade_answer q sun
   unfolding out_of_range shade_answer
   shaded e f = rw (e, f)

@@ -1,5 +1,5 @@
 -- Shade: document 01, "Sun and shade", and refusal 14. Assumes nothing.
-use Rattle.std.specs.Prelude.{Bool, ◌||◌, cond, ℕ, ◌^◌, ltb, ℤ, pos, neg_ℤ, nat_abs, ◌+ℤ◌, ◌-ℤ◌, ◌*ℤ◌}
+use Rattle.std.specs.Prelude.{Bool, ◌||◌, cond, ℕ, ◌^◌, ltb, ℤ, pos, neg_ℤ, nat_abs, ◌+ℤ◌, ◌-ℤ◌, ◌*ℤ◌, Err, Ok, Result}
 use Rattle.std.specs.Int.Signed.{lt_z, quot_z}
 use Rattle.refusal.specs.declared.Refusal.TheVariants.{Component}
 use Rattle.position.specs.declared.Position.{Position}
@@ -7,8 +7,7 @@ use Rattle.sun.specs.declared.Direction.{Direction}
 use Rattle.eclipse.specs.Dot.{dot_of}
 use Rattle.shade.specs.declared.Shade.{Shade}
 use Rattle.shade.specs.declared.Shade.TheVariants.{Lit, Dark, Part}
-use Rattle.eclipse.specs.declared.ShadeAnswer.{ShadeAnswer}
-use Rattle.eclipse.specs.declared.ShadeAnswer.TheVariants.{Shaded, Refused}
+use Rattle.refusal.specs.declared.Refusal.{Refusal}
 
 -- p = (position · Sun)/2^30, below zero behind the Earth
 abbrev pub projection : Position → Direction → ℤ
@@ -51,5 +50,5 @@ unfoldable pub out_of_range : Position → Direction → Bool
 out_of_range q sun = any_beyond 200_000_000 q.x q.y q.z || any_beyond (2 ^ 30) sun.x sun.y sun.z
 
 -- the shade test alone
-unfoldable pub shade_answer : Position → Direction → ShadeAnswer
-shade_answer q sun = cond (out_of_range q sun) (Refused Component) (Shaded (shade_of q sun))
+unfoldable pub shade_answer : Position → Direction → Result Shade Refusal
+shade_answer q sun = cond (out_of_range q sun) (Err Component) (Ok (shade_of q sun))

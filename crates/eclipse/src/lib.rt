@@ -29,12 +29,6 @@ const RADII_TOGETHER: i64 = 702_378_000;
 
 const MINUS_ONE: i64 = -ONE;
 
-#[derive(Clone, Copy)]
-pub enum ShadeAnswer {
-    Shaded(Shade),
-    Refused(Refusal),
-}
-
 // The scalar product with a direction.
 fn dot(x: i64, y: i64, z: i64, direction: Direction) -> i64
     requires { Within (2 ^ 30) x × Within (2 ^ 30) y × Within (2 ^ 30) z × WithinOne direction }
@@ -113,16 +107,16 @@ fn any_beyond(bound: u64, x: i64, y: i64, z: i64) -> bool
 }
 
 // The shade test alone: of any position and Sun, or refusal 14.
-pub fn shade_test(position: Position, sun: Direction) -> ShadeAnswer
+pub fn shade_test(position: Position, sun: Direction) -> Result<Shade, Refusal>
     ensures { result ≡ shade_answer position sun }
 {
     if any_beyond(200_000_000, position.x, position.y, position.z) {
-        return ShadeAnswer::Refused(Refusal::Component);
+        return Err(Refusal::Component);
     }
     if any_beyond(trig::ONE, sun.x, sun.y, sun.z) {
-        return ShadeAnswer::Refused(Refusal::Component);
+        return Err(Refusal::Component);
     }
-    ShadeAnswer::Shaded(shade_at(position, sun))
+    Ok(shade_at(position, sun))
 }
 
 // The orbit normal.

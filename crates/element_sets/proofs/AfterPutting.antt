@@ -19,7 +19,6 @@ use Rattle.sequence.proofs.Sequences.{leading_all, leading_stops, leading_mono}
 use Rattle.elements.specs.Contract.{Held}
 use Rattle.elements.specs.declared.Elements.{Elements}
 use Rattle.elements_buffer.specs.Buffer.{elements_bytes}
-use Rattle.element_sets.specs.declared.lookup.Finding.TheVariants.{Past, Forecast}
 use Rattle.element_sets.specs.Table.{row_size, rows_in, row_at, set_at, epoch_at, is_table, is_table_in, before, up_to}
 use Rattle.element_sets.specs.Finding.{finding}
 use Rattle.element_sets.specs.Putting.{end_with, with_set}
@@ -29,6 +28,8 @@ use Rattle.element_sets.proofs.Rising.{behind_after}
 use Rattle.element_sets.proofs.Made.{earlier, later, made, order, bound, made_length, made_rows, row_before, row_new, row_after, set_before, set_new, set_after, each, made_table, in_table}
 use Rattle.element_sets.proofs.Finds.{FoundPast, FoundForecast, answer_says}
 use Rattle.element_sets.proofs.Puts.{PutSays, put_says}
+use Rattle.element_sets.specs.declared.lookup.Row.TheVariants.{Past, Forecast}
+use Rattle.std.specs.Prelude.{Ok}
 
 -- the rows up to a time, where the first of the others is after it
 up_to_is : (table : List ℕ) (time : ℤ) (m : ℕ) → m ≤ rows_in (length table) → ((k : ℕ) → k < m → le_z (epoch_at table k) time ≡ true)
@@ -42,7 +43,7 @@ up_to_is table time m l holds stops =
 
 -- a row of the past that is the last up to the time
 found_at : (past : List ℕ) (past_size : ℕ) (forecast : List ℕ) (forecast_size : ℕ) (time : ℤ) (k : ℕ) → is_table_in past past_size ≡ true
-    → is_table_in forecast forecast_size ≡ true → up_to (take past_size past) time ≡ k + 1 → finding past past_size forecast forecast_size time ≡ Past k
+    → is_table_in forecast forecast_size ≡ true → up_to (take past_size past) time ≡ k + 1 → finding past past_size forecast forecast_size time ≡ Ok (Past k)
 unfolding finding
 found_at past past_size forecast forecast_size time k p f e =
     let first : k + 1 - 1 ≡ k = omega arith in
@@ -50,7 +51,7 @@ found_at past past_size forecast forecast_size time k p f e =
 
 -- the first row of the forecast, where no row of the past is up to the time
 foretold_at : (past : List ℕ) (past_size : ℕ) (forecast : List ℕ) (forecast_size : ℕ) (time : ℤ) (k : ℕ) → k ≡ 0 → is_table_in past past_size ≡ true
-    → is_table_in forecast forecast_size ≡ true → up_to (take past_size past) time ≤ 0 → 0 < rows_in forecast_size → finding past past_size forecast forecast_size time ≡ Forecast k
+    → is_table_in forecast forecast_size ≡ true → up_to (take past_size past) time ≤ 0 → 0 < rows_in forecast_size → finding past past_size forecast forecast_size time ≡ Ok (Forecast k)
 unfolding finding
 foretold_at past past_size forecast forecast_size time k z p f none some =
     rw (p, f, le-ltb 0 (up_to (take past_size past) time) none, lt-ltb 0 (rows_in forecast_size) some, z)
@@ -184,9 +185,9 @@ module _ (el : Elements) (buffer : List ℕ) (size end : ℕ) (into : PutInto el
         row_found (before table el.epoch) (elements_bytes el) (with_new table sound el held time h ∙ omega arith) (row_new table sound el)
 
   -- ---- a row that was found before
-  module _ (forecast : List ℕ) (forecast_size : ℕ) (time : ℤ) (k : ℕ) (e : finding buffer size forecast forecast_size time ≡ Past k) where
+  module _ (forecast : List ℕ) (forecast_size : ℕ) (time : ℤ) (k : ℕ) (e : finding buffer size forecast forecast_size time ≡ Ok (Past k)) where
     found : FoundPast buffer size forecast forecast_size time k
-    found = answer_says buffer size forecast forecast_size time (Past k) e
+    found = answer_says buffer size forecast forecast_size time (Ok (Past k)) e
 
     same_row : row_at table k ≡ row_at buffer k
     same_row = row_is k (omega (arith, found.number, few table sound time))
@@ -225,11 +226,11 @@ module _ (el : Elements) (buffer : List ℕ) (size end : ℕ) (into : PutInto el
             absurd (subst T (sym p ∙ behind_after table sound el.epoch k (ltb-false k (up_to table el.epoch) e) (omega (arith, found.number, few table sound time))) tt)
 
   -- ---- a row of the forecast that was found before, with the table as the past
-  module _ (forecast : List ℕ) (forecast_size : ℕ) (time : ℤ) (k : ℕ) (e : finding buffer size forecast forecast_size time ≡ Forecast k) where
+  module _ (forecast : List ℕ) (forecast_size : ℕ) (time : ℤ) (k : ℕ) (e : finding buffer size forecast forecast_size time ≡ Ok (Forecast k)) where
     foretold : FoundForecast buffer size forecast forecast_size time k
-    foretold = answer_says buffer size forecast forecast_size time (Forecast k) e
+    foretold = answer_says buffer size forecast forecast_size time (Ok (Forecast k)) e
 
-    still_foretold : le_z el.epoch time ≡ false → finding after end forecast forecast_size time ≡ Forecast k
+    still_foretold : le_z el.epoch time ≡ false → finding after end forecast forecast_size time ≡ Ok (Forecast k)
     still_foretold h =
         foretold_at after end forecast forecast_size time k foretold.first after_table foretold.tables.forecast_table
         (omega (arith, ap (λ (x : List ℕ). up_to x time) after_is ∙ without_new table sound el held time h, foretold.none))
@@ -240,16 +241,16 @@ module _ (el : Elements) (buffer : List ℕ) (size end : ℕ) (into : PutInto el
 
   -- ---- with the table as the forecast
   module _ (past : List ℕ) (past_size : ℕ) (time : ℤ) (k : ℕ) where
-    still_past : finding past past_size buffer size time ≡ Past k → finding past past_size after end time ≡ Past k
+    still_past : finding past past_size buffer size time ≡ Ok (Past k) → finding past past_size after end time ≡ Ok (Past k)
     still_past e =
-        let q = answer_says past past_size buffer size time (Past k) e in
+        let q = answer_says past past_size buffer size time (Ok (Past k)) e in
         found_at past past_size after end time k q.tables.past_table after_table q.number
 
-    module _ (e : finding past past_size buffer size time ≡ Forecast k) where
+    module _ (e : finding past past_size buffer size time ≡ Ok (Forecast k)) where
       first : FoundForecast past past_size buffer size time k
-      first = answer_says past past_size buffer size time (Forecast k) e
+      first = answer_says past past_size buffer size time (Ok (Forecast k)) e
 
-      still_first : finding past past_size after end time ≡ Forecast k
+      still_first : finding past past_size after end time ≡ Ok (Forecast k)
       still_first =
           foretold_at past past_size after end time k first.first first.tables.past_table after_table first.none (omega (arith, says.end_is))
 

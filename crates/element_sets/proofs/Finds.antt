@@ -12,54 +12,55 @@ use lib.Seq.{length-take-le}
 use denote.Ref.{Bor}
 use borrow.Author.Tests.{lt-ltb, le-ltb, ltb-true, ltb-false, le-leb}
 use Rattle.refusal.specs.declared.Refusal.TheVariants.{Table, NoSet}
-use Rattle.element_sets.specs.declared.lookup.Finding.{Finding}
-use Rattle.element_sets.specs.declared.lookup.Finding.TheVariants.{Past, Forecast, Refused}
-use Rattle.element_sets.specs.declared.table.Scan.TheVariants.{Sound, Broken}
-use Rattle.element_sets.specs.Table.{row_size, rows_in, is_table_in, before, up_to, scanned}
+use Rattle.element_sets.specs.Table.{row_size, rows_in, is_table_in, before, up_to, scanned, split_at}
 use Rattle.element_sets.specs.Part.{PartOf}
 use Rattle.element_sets.specs.Finding.{found_among, finding, RowIs}
 use Rattle.element_sets.proofs.Sound.{told, in_buffer, few}
+use Rattle.element_sets.specs.declared.lookup.Row.TheVariants.{Past, Forecast}
+use Rattle.element_sets.specs.declared.lookup.Row.{Row}
+use Rattle.refusal.specs.declared.Refusal.{Refusal}
+use Rattle.std.specs.Prelude.{Err, None, Ok, Result, Some}
 
 module _ (past : List ℕ) (past_size : ℕ) (forecast : List ℕ) (forecast_size : ℕ) (time : ℤ) where
-  abbrev answer : Finding
+  abbrev answer : Result Row Refusal
   answer = finding past past_size forecast forecast_size time
 
   -- the answer by what the two tables are
-  abbrev by : Bool → Bool → Finding
-  by p f = cond (p && f) (found_among (up_to (take past_size past) time) (rows_in forecast_size)) (Refused Table)
+  abbrev by : Bool → Bool → Result Row Refusal
+  by p f = cond (p && f) (found_among (up_to (take past_size past) time) (rows_in forecast_size)) (Err Table)
 
-  broken : (buffer : List ℕ) (size : ℕ) → scanned buffer size time ≡ Broken → is_table_in buffer size ≡ false
+  broken : (buffer : List ℕ) (size : ℕ) → scanned buffer size time ≡ None → is_table_in buffer size ≡ false
   unfolding scanned
   broken buffer size e = of (is_table_in buffer size) e
     where
-      of : (t : Bool) → cond t (Sound (before (take size buffer) time) (up_to (take size buffer) time)) Broken ≡ Broken → t ≡ false
+      of : (t : Bool) → cond t (Some (split_at (before (take size buffer) time) (up_to (take size buffer) time))) None ≡ None → t ≡ false
       of true e = let z : ◌≡◌ {A = ℕ} 0 1 = cc in absurd (omega arith)
       of false e = refl
 
-  sound : (buffer : List ℕ) (size : ℕ) {earlier later : ℕ} → scanned buffer size time ≡ Sound earlier later → is_table_in buffer size ≡ true
+  sound : (buffer : List ℕ) (size : ℕ) {earlier later : ℕ} → scanned buffer size time ≡ Some (split_at earlier later) → is_table_in buffer size ≡ true
   unfolding is_table_in
   sound buffer size {earlier} {later} e = let t = told buffer size time earlier later e in rw (le-leb size (length buffer) t.held, t.table)
 
-  pub past_broken : scanned past past_size time ≡ Broken → Refused Table ≡ answer
+  pub past_broken : scanned past past_size time ≡ None → Err Table ≡ answer
   unfolding finding
   past_broken e = rw (broken past past_size e)
 
-  pub forecast_broken : {a b : ℕ} → scanned past past_size time ≡ Sound a b → scanned forecast forecast_size time ≡ Broken → Refused Table ≡ answer
+  pub forecast_broken : {a b : ℕ} → scanned past past_size time ≡ Some (split_at a b) → scanned forecast forecast_size time ≡ None → Err Table ≡ answer
   unfolding finding
   forecast_broken e f = rw (sound past past_size e, broken forecast forecast_size f)
 
-  module _ {a b c d : ℕ} (e : scanned past past_size time ≡ Sound a b) (f : scanned forecast forecast_size time ≡ Sound c d) where
+  module _ {a b c d : ℕ} (e : scanned past past_size time ≡ Some (split_at a b)) (f : scanned forecast forecast_size time ≡ Some (split_at c d)) where
     both_sound : answer ≡ found_among b (rows_in forecast_size)
     unfolding finding
     both_sound = rw (sound past past_size e, sound forecast forecast_size f, (told past past_size time a b e).later_is)
 
-    pub in_past : 0 < b → Past (b - 1) ≡ answer
+    pub in_past : 0 < b → Ok (Past (b - 1)) ≡ answer
     in_past h = sym (both_sound ∙ rw (lt-ltb 0 b h))
 
-    pub in_forecast : b ≤ 0 → row_size ≤ forecast_size → Forecast 0 ≡ answer
+    pub in_forecast : b ≤ 0 → row_size ≤ forecast_size → Ok (Forecast 0) ≡ answer
     in_forecast h k = sym (both_sound ∙ rw (le-ltb 0 b h, lt-ltb 0 (rows_in forecast_size) (omega arith)))
 
-    pub nowhere : b ≤ 0 → forecast_size < row_size → Refused NoSet ≡ answer
+    pub nowhere : b ≤ 0 → forecast_size < row_size → Err NoSet ≡ answer
     nowhere h k = sym (both_sound ∙ rw (le-ltb 0 b h, le-ltb 0 (rows_in forecast_size) (omega arith)))
 
   -- ---- what an answer tells
@@ -83,14 +84,14 @@ module _ (past : List ℕ) (past_size : ℕ) (forecast : List ℕ) (forecast_siz
     pub none : up_to (take past_size past) time ≤ 0
     pub empty : rows_in forecast_size ≤ 0
 
-  abbrev pub Says : Finding → Type 0
-  Says (Past k) = FoundPast k
-  Says (Forecast k) = FoundForecast k
-  Says (Refused refusal) = refusal ≡ NoSet → FoundNowhere
+  abbrev pub Says : Result Row Refusal → Type 0
+  Says (Ok (Past k)) = FoundPast k
+  Says (Ok (Forecast k)) = FoundForecast k
+  Says (Err refusal) = refusal ≡ NoSet → FoundNowhere
 
   -- by the tests that the definition makes
   tested : (p f t v : Bool) → is_table_in past past_size ≡ p → is_table_in forecast forecast_size ≡ f → ltb 0 (up_to (take past_size past) time) ≡ t → ltb 0 (rows_in forecast_size) ≡ v
-      → Says (cond (p && f) (cond t (Past (up_to (take past_size past) time - 1)) (cond v (Forecast 0) (Refused NoSet))) (Refused Table))
+      → Says (cond (p && f) (cond t (Ok (Past (up_to (take past_size past) time - 1))) (cond v (Ok (Forecast 0)) (Err NoSet))) (Err Table))
   tested true true true v p f t w =
       record { tables = record { past_table = p; forecast_table = f }; number = omega (arith, ltb-true 0 (up_to (take past_size past) time) t) }
   tested true true false true p f t w =
@@ -100,23 +101,23 @@ module _ (past : List ℕ) (past_size : ℕ) (forecast : List ℕ) (forecast_siz
   tested true false t v p f a w = λ r. (let z : ◌≡◌ {A = ℕ} 0 1 = cc in absurd (omega arith))
   tested false f t v p g a w = λ r. (let z : ◌≡◌ {A = ℕ} 0 1 = cc in absurd (omega arith))
 
-  pub answer_says : (f : Finding) → answer ≡ f → Says f
+  pub answer_says : (f : Result Row Refusal) → answer ≡ f → Says f
   unfolding finding
   answer_says f e = subst Says e (tested _ _ _ _ refl refl refl refl)
 
-  pub past_row : (k : ℕ) → answer ≡ Past k → row_size * k + row_size ≤ length past
+  pub past_row : (k : ℕ) → answer ≡ Ok (Past k) → row_size * k + row_size ≤ length past
   past_row k e =
-      let q = answer_says (Past k) e in
+      let q = answer_says (Ok (Past k)) e in
       let p = in_buffer past past_size q.tables.past_table in
       let u = few (take past_size past) p.1 time in
       omega (arith, q.number, p.0, length-take-le past_size past p.0)
 
-  pub forecast_row : (k : ℕ) → answer ≡ Forecast k → row_size * k + row_size ≤ length forecast
-  forecast_row k e = let q = answer_says (Forecast k) e in omega (arith, q.first, q.some, (in_buffer forecast forecast_size q.tables.forecast_table).0)
+  pub forecast_row : (k : ℕ) → answer ≡ Ok (Forecast k) → row_size * k + row_size ≤ length forecast
+  forecast_row k e = let q = answer_says (Ok (Forecast k)) e in omega (arith, q.first, q.some, (in_buffer forecast forecast_size q.tables.forecast_table).0)
 
 -- the row of an answer that is known
-pub row_of : (f g : Finding) (past forecast r : Bor (List ℕ)) → f ≡ g → RowIs g past forecast r → RowIs f past forecast r
-row_of f g past forecast r e h = subst (λ (x : Finding). RowIs x past forecast r) (sym e) h
+pub row_of : (f g : Result Row Refusal) (past forecast r : Bor (List ℕ)) → f ≡ g → RowIs g past forecast r → RowIs f past forecast r
+row_of f g past forecast r e h = subst (λ (x : Result Row Refusal). RowIs x past forecast r) (sym e) h
 
 -- a row, as code takes the part of it
 pub part_is : (x : Bor (List ℕ)) (k : ℕ) (r : Bor (List ℕ)) → r.now ≡ take (row_size * k + row_size - row_size * k) (drop (row_size * k) x.now) → r.ref_ptr.0 ≡ x.ref_ptr.0

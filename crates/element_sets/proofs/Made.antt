@@ -15,7 +15,6 @@ use Rattle.integer.proofs.Order.{after_parts, parts_before}
 use Rattle.elements.specs.Contract.{Held}
 use Rattle.elements.specs.Elements.{checked}
 use Rattle.elements.specs.declared.Elements.{Elements}
-use Rattle.elements.specs.declared.Verdict.TheVariants.{Passed}
 use Rattle.elements_buffer.specs.Buffer.{elements_of, elements_bytes}
 use Rattle.elements_buffer.proofs.ElementsBack.{elements_back}
 use Rattle.element_sets.specs.Table.{row_size, rows_in, row_at, set_at, epoch_at, accepts, follows, keeps_at, is_table, before, up_to}
@@ -23,6 +22,7 @@ use Rattle.element_sets.specs.Putting.{end_with}
 use Rattle.element_sets.proofs.Scans.{table_sound}
 use Rattle.element_sets.proofs.Sound.{whole, accepted_at, rises_at, few, one_at_most, is_before, is_after}
 use Rattle.element_sets.proofs.Moves.{elements_length}
+use Rattle.std.specs.Prelude.{Ok}
 
 -- a row of the first of two lists
 ahead : (a b : List ℕ) (k : ℕ) → row_size * k + row_size ≤ length a → row_at (a ++ b) k ≡ row_at a k
@@ -122,7 +122,7 @@ module _ (t : List ℕ) (is : is_table t ≡ true) (el : Elements) where
       by false e = ⊎_elim (λ (h : earlier ≡ k). subst P h new) (λ (h : earlier < k). on (omega arith)) (eq-or-lt_of_le {n = earlier} {m = k} (ltb-false k earlier e))
 
   -- ---- a set that is accepted makes a table
-  module _ (held : Held el) (passed : checked el ≡ Passed) where
+  module _ (held : Held el) (passed : checked el ≡ Ok tt) where
     accepted : (k : ℕ) → k < rows_in (length made) → accepts (checked (set_at made k)) ≡ true
     accepted =
         each (λ k. accepts (checked (set_at made k)) ≡ true)

@@ -12,32 +12,29 @@ use Rattle.refusal.specs.declared.Refusal.{Refusal}
 use Rattle.refusal.specs.declared.Refusal.TheVariants.{Table, Room}
 use Rattle.elements.specs.Elements.{checked}
 use Rattle.elements.specs.declared.Elements.{Elements}
-use Rattle.elements.specs.declared.Verdict.{Verdict}
-use Rattle.elements.specs.declared.Verdict.TheVariants as verdict
 use Rattle.elements_buffer.specs.Buffer.{elements_bytes}
-use Rattle.element_sets.specs.declared.insertion.Putting.TheVariants.{Put, Refused}
-use Rattle.element_sets.specs.declared.table.Scan.{Scan}
-use Rattle.element_sets.specs.declared.table.Scan.TheVariants.{Sound, Broken}
-use Rattle.element_sets.specs.Table.{row_size, is_table, before, up_to, scanned}
+use Rattle.element_sets.specs.Table.{row_size, is_table, before, up_to, scanned, split_at}
 use Rattle.element_sets.specs.Putting.{end_with, putting_of, putting, with_set}
 use Rattle.element_sets.proofs.Sound.{told}
+use Rattle.element_sets.specs.declared.table.Split.{Split}
+use Rattle.std.specs.Prelude.{Err, None, Ok, Option, Result, Some}
 
 module _ (el : Elements) (buffer : List ℕ) (size : ℕ) where
-  pub put_refused : {r : Refusal} → checked el ≡ verdict.Refused r → Refused r ≡ putting el buffer size
+  pub put_refused : {r : Refusal} → checked el ≡ Err r → Err r ≡ putting el buffer size
   unfolding putting
   put_refused e = rw e
 
-  module _ (passed : checked el ≡ verdict.Passed) where
-    pub put_broken : scanned buffer size el.epoch ≡ Broken → Refused Table ≡ putting el buffer size
+  module _ (passed : checked el ≡ Ok tt) where
+    pub put_broken : scanned buffer size el.epoch ≡ None → Err Table ≡ putting el buffer size
     unfolding putting
     put_broken e = rw (passed, e)
 
-    module _ {earlier later : ℕ} (e : scanned buffer size el.epoch ≡ Sound earlier later) where
-      pub put_roomless : length buffer < end_with earlier later size → Refused Room ≡ putting el buffer size
+    module _ {earlier later : ℕ} (e : scanned buffer size el.epoch ≡ Some (split_at earlier later)) where
+      pub put_roomless : length buffer < end_with earlier later size → Err Room ≡ putting el buffer size
       unfolding putting
       put_roomless h = rw (passed, e, lt-ltb (length buffer) (end_with earlier later size) h)
 
-      pub put_placed : end_with earlier later size ≤ length buffer → Put (end_with earlier later size) ≡ putting el buffer size
+      pub put_placed : end_with earlier later size ≤ length buffer → Ok (end_with earlier later size) ≡ putting el buffer size
       unfolding putting
       put_placed h = rw (passed, e, le-ltb (length buffer) (end_with earlier later size) h)
 
@@ -48,25 +45,25 @@ module _ (el : Elements) (buffer : List ℕ) (size : ℕ) where
 -- ---- what an answer tells
 
 pub record PutSays (el : Elements) (buffer : List ℕ) (size end : ℕ) : Type 0 where
-  pub passed : checked el ≡ verdict.Passed
+  pub passed : checked el ≡ Ok tt
   pub held : size ≤ length buffer
   pub table : is_table (take size buffer) ≡ true
   pub end_is : end_with (before (take size buffer) el.epoch) (up_to (take size buffer) el.epoch) size ≡ end
   pub room : end ≤ length buffer
 
-pub put_says : (el : Elements) (buffer : List ℕ) (size end : ℕ) → putting el buffer size ≡ Put end → PutSays el buffer size end
+pub put_says : (el : Elements) (buffer : List ℕ) (size end : ℕ) → putting el buffer size ≡ Ok end → PutSays el buffer size end
 unfolding putting
 put_says el buffer size end e = by (checked el) (scanned buffer size el.epoch) refl refl e
   where
-    fits : (a b : ℕ) → checked el ≡ verdict.Passed → scanned buffer size el.epoch ≡ Sound a b → (t : Bool) → ltb (length buffer) (end_with a b size) ≡ t
-        → cond t (Refused Room) (Put (end_with a b size)) ≡ Put end → PutSays el buffer size end
+    fits : (a b : ℕ) → checked el ≡ Ok tt → scanned buffer size el.epoch ≡ Some (split_at a b) → (t : Bool) → ltb (length buffer) (end_with a b size) ≡ t
+        → cond t (Err Room) (Ok (end_with a b size)) ≡ Ok end → PutSays el buffer size end
     fits a b p s true l e = let z : ◌≡◌ {A = ℕ} 0 1 = cc in absurd (omega arith)
     fits a b p s false l e =
         let t = told buffer size el.epoch a b s in
         let ends : end_with a b size ≡ end = cc in
         record { passed = p; held = t.held; table = t.table; end_is = rw (t.earlier_is, t.later_is) ends; room = omega (arith, ltb-false (length buffer) (end_with a b size) l) }
 
-    by : (v : Verdict) (s : Scan) → checked el ≡ v → scanned buffer size el.epoch ≡ s → putting_of v s size (length buffer) ≡ Put end → PutSays el buffer size end
-    by (verdict.Refused r) s p q e = let z : ◌≡◌ {A = ℕ} 0 1 = cc in absurd (omega arith)
-    by verdict.Passed Broken p q e = let z : ◌≡◌ {A = ℕ} 0 1 = cc in absurd (omega arith)
-    by verdict.Passed (Sound a b) p q e = fits a b p q (ltb (length buffer) (end_with a b size)) refl e
+    by : (v : Result Unit Refusal) (s : Option Split) → checked el ≡ v → scanned buffer size el.epoch ≡ s → putting_of v s size (length buffer) ≡ Ok end → PutSays el buffer size end
+    by (Err r) s p q e = let z : ◌≡◌ {A = ℕ} 0 1 = cc in absurd (omega arith)
+    by (Ok tt) None p q e = let z : ◌≡◌ {A = ℕ} 0 1 = cc in absurd (omega arith)
+    by (Ok tt) (Some split) p q e = fits split.earlier split.up_to p q (ltb (length buffer) (end_with split.earlier split.up_to size)) refl e

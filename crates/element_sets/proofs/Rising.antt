@@ -13,11 +13,12 @@ use lib.Seq.{length-take-le}
 use lib.Signed.{le_z, lt_z}
 use borrow.Author.Tests.{ltb-true, ltb-false}
 use Rattle.integer.proofs.Order.{before_parts, up_to_parts, after_parts, parts_before, parts_up_to, parts_after}
-use Rattle.element_sets.specs.declared.lookup.Finding.TheVariants.{Past, Forecast, Refused}
 use Rattle.element_sets.specs.Table.{rows_in, epoch_at, is_table, is_table_in, up_to}
 use Rattle.element_sets.specs.Theorems.{LatestUpTo, NoneUpTo, Earliest, FoundAnswers}
 use Rattle.element_sets.proofs.Finds.{answer_says}
 use Rattle.element_sets.proofs.Sound.{in_buffer, rises_at, few, is_up_to, is_after}
+use Rattle.element_sets.specs.declared.lookup.Row.TheVariants.{Past, Forecast}
+use Rattle.std.specs.Prelude.{Err, Ok}
 
 module _ (table : List ℕ) (is : is_table table ≡ true) where
   abbrev rows : ℕ
@@ -74,17 +75,17 @@ rows_are : (buffer : List ℕ) (size : ℕ) → is_table_in buffer size ≡ true
 rows_are buffer size t = ap rows_in (length-take-le size buffer (in_buffer buffer size t).0)
 
 pub found_answers : FoundAnswers
-found_answers past past_size forecast forecast_size time (Past k) e =
-    let q = answer_says past past_size forecast forecast_size time (Past k) e in
+found_answers past past_size forecast forecast_size time (Ok (Past k)) e =
+    let q = answer_says past past_size forecast forecast_size time (Ok (Past k)) e in
     latest (take past_size past) (in_buffer past past_size q.tables.past_table).1 time k q.number
-found_answers past past_size forecast forecast_size time (Forecast k) e =
-    let q = answer_says past past_size forecast forecast_size time (Forecast k) e in
+found_answers past past_size forecast forecast_size time (Ok (Forecast k)) e =
+    let q = answer_says past past_size forecast forecast_size time (Ok (Forecast k)) e in
     let t = q.tables in (
       none (take past_size past) (in_buffer past past_size t.past_table).1 time q.none,
       earliest (take forecast_size forecast) (in_buffer forecast forecast_size t.forecast_table).1 k q.first (omega (arith, q.some, rows_are forecast forecast_size t.forecast_table)),
     )
-found_answers past past_size forecast forecast_size time (Refused refusal) e = λ r.
-    let q = answer_says past past_size forecast forecast_size time (Refused refusal) e r in
+found_answers past past_size forecast forecast_size time (Err refusal) e = λ r.
+    let q = answer_says past past_size forecast forecast_size time (Err refusal) e r in
     let t = q.tables in (
       none (take past_size past) (in_buffer past past_size t.past_table).1 time q.none,
       omega (arith, q.empty, rows_are forecast forecast_size t.forecast_table),

@@ -13,8 +13,8 @@ use lib.Signed.{lt_z, le_z}
 use borrow.Author.Tests.{le-leb, lt-leb, eq-eqb, ne_eqb}
 use Rattle.sequence.specs.Sequence.{leading}
 use Rattle.sequence.proofs.Sequences.{leading_all, leading_stops}
-use Rattle.element_sets.specs.declared.table.Scan.TheVariants.{Sound, Broken}
-use Rattle.element_sets.specs.Table.{row_size, rows_in, epoch_at, keeps_at, is_table, is_table_in, before, up_to, scanned}
+use Rattle.element_sets.specs.Table.{row_size, rows_in, epoch_at, keeps_at, is_table, is_table_in, before, up_to, scanned, split_at}
+use Rattle.std.specs.Prelude.{None, Some}
 
 -- ---- a table that is all of its buffer
 
@@ -36,31 +36,31 @@ module _ (table : List ℕ) where
       no false = refl
 
   module _ (time : ℤ) where
-    whole_scanned : scanned table (length table) time ≡ cond (is_table table) (Sound (before table time) (up_to table time)) Broken
+    whole_scanned : scanned table (length table) time ≡ cond (is_table table) (Some (split_at (before table time) (up_to table time))) None
     unfolding scanned is_table_in
     whole_scanned = rw (le-leb (length table) (length table) (le_refl (length table)), take-length table)
 
-    pub scan_broken : (k : ℕ) → ((j : ℕ) → j < k → keeps_at table j ≡ true) → keeps_at table k ≡ false → k < rows → Broken ≡ scanned table (length table) time
+    pub scan_broken : (k : ℕ) → ((j : ℕ) → j < k → keeps_at table j ≡ true) → keeps_at table k ≡ false → k < rows → None ≡ scanned table (length table) time
     scan_broken k keeps breaks l = sym (whole_scanned ∙ rw (table_broken k keeps breaks l))
 
     -- the counts after all rows, k in number
     pub scan_sound : {k earlier later : ℕ} {t : ℤ} → length table % row_size ≡ 0 → k ≡ rows → t ≡ time → ((j : ℕ) → j < k → keeps_at table j ≡ true)
         → earlier ≡ leading (λ j. lt_z (epoch_at table j) t) k → later ≡ leading (λ j. le_z (epoch_at table j) t) k
-        → Sound earlier later ≡ scanned table (length table) time
+        → Some (split_at earlier later) ≡ scanned table (length table) time
     unfolding before up_to
     scan_sound whole all is keeps e f =
-        (λ i. Sound ((e ∙ (λ j. leading (λ x. lt_z (epoch_at table x) (is j)) (all j))) i) ((f ∙ (λ j. leading (λ x. le_z (epoch_at table x) (is j)) (all j))) i))
+        (λ i. Some (split_at ((e ∙ (λ j. leading (λ x. lt_z (epoch_at table x) (is j)) (all j))) i) ((f ∙ (λ j. leading (λ x. le_z (epoch_at table x) (is j)) (all j))) i)))
         ∙ sym (whole_scanned ∙ rw (table_sound whole (subst (λ (n : ℕ). (j : ℕ) → j < n → keeps_at table j ≡ true) all keeps)))
 
 -- ---- the first bytes of a buffer
 
 module _ (buffer : List ℕ) (size : ℕ) (time : ℤ) where
-  pub scan_beyond : length buffer < size → Broken ≡ scanned buffer size time
+  pub scan_beyond : length buffer < size → None ≡ scanned buffer size time
   unfolding scanned is_table_in
   scan_beyond h = rw (lt-leb size (length buffer) h)
 
   module _ (h : size ≤ length buffer) where
-    pub scan_ragged : (size % row_size ≡ 0 → ⊥) → Broken ≡ scanned buffer size time
+    pub scan_ragged : (size % row_size ≡ 0 → ⊥) → None ≡ scanned buffer size time
     unfolding scanned is_table_in is_table
     scan_ragged ragged = rw (le-leb size (length buffer) h, length-take-le size buffer h, ne_eqb (size % row_size) 0 ragged)
 

@@ -15,9 +15,9 @@ use Rattle.integer.proofs.Order.{before_parts, not_before_parts, up_to_parts, pa
 use Rattle.sequence.specs.Sequence.{leading}
 use Rattle.sequence.proofs.Sequences.{leading_le, leading_holds, leading_fails, leading_mono}
 use Rattle.elements.specs.Elements.{checked}
-use Rattle.element_sets.specs.declared.table.Scan.TheVariants.{Sound, Broken}
-use Rattle.element_sets.specs.Table.{row_size, rows_in, set_at, epoch_at, accepts, follows, keeps_at, is_table, is_table_in, before, up_to, scanned}
+use Rattle.element_sets.specs.Table.{row_size, rows_in, set_at, epoch_at, accepts, follows, keeps_at, is_table, is_table_in, before, up_to, scanned, split_at}
 use Rattle.element_sets.specs.Contract.{OneAtMost}
+use Rattle.std.specs.Prelude.{None, Some}
 
 module _ (table : List ℕ) (is : is_table table ≡ true) where
   abbrev rows : ℕ
@@ -97,12 +97,12 @@ module _ (buffer : List ℕ) (size : ℕ) where
   in_buffer e = let p = and_true (leb size (length buffer)) (is_table (take size buffer)) e in (leb-true size (length buffer) p.0, p.1)
 
   module _ (time : ℤ) (earlier later : ℕ) where
-    by : (t : Bool) → is_table_in buffer size ≡ t → cond t (Sound (before (take size buffer) time) (up_to (take size buffer) time)) Broken ≡ Sound earlier later
+    by : (t : Bool) → is_table_in buffer size ≡ t → cond t (Some (split_at (before (take size buffer) time) (up_to (take size buffer) time))) None ≡ Some (split_at earlier later)
         → Told buffer size time earlier later
     by true is e = let p = in_buffer is in record { held = p.0; table = p.1; earlier_is = cc; later_is = cc }
     by false is e = let z : ◌≡◌ {A = ℕ} 0 1 = cc in absurd (omega arith)
 
-    pub told : scanned buffer size time ≡ Sound earlier later → Told buffer size time earlier later
+    pub told : scanned buffer size time ≡ Some (split_at earlier later) → Told buffer size time earlier later
     unfolding scanned
     told e = by (is_table_in buffer size) refl e
 

@@ -1,14 +1,15 @@
 -- Tables of element sets: document 01, "Tables of element sets", and refusal 21. Assumes nothing.
-use Rattle.std.specs.Prelude.{ℕ, zero, suc, ◌*◌, ◌/◌, ◌%◌, Bool, true, false, cond, ◌&&◌, List, eqb, leb, ℤ, length, take, drop}
+use Rattle.std.specs.Prelude.{ℕ, zero, suc, ◌*◌, ◌/◌, ◌%◌, Bool, true, false, cond, ◌&&◌, List, eqb, leb, ℤ, length, take, drop, Err, None, Ok, Option, Result, Some}
 use Rattle.std.specs.Int.Signed.{lt_z, le_z}
 use Rattle.sequence.specs.Sequence.{leading}
 use Rattle.elements.specs.Elements.{checked}
 use Rattle.elements.specs.declared.Elements.{Elements}
-use Rattle.elements.specs.declared.Verdict.{Verdict}
-use Rattle.elements.specs.declared.Verdict.TheVariants.{Passed, Refused}
 use Rattle.elements_buffer.specs.Buffer.{elements_of}
-use Rattle.element_sets.specs.declared.table.Scan.{Scan}
-use Rattle.element_sets.specs.declared.table.Scan.TheVariants.{Sound, Broken}
+use Rattle.element_sets.specs.declared.table.Split.{Split}
+use Rattle.refusal.specs.declared.Refusal.{Refusal}
+
+abbrev pub split_at : ℕ → ℕ → Split
+split_at earlier up_to = record { earlier = earlier; up_to = up_to }
 
 -- a row is 52 bytes
 abbrev pub row_size : ℕ
@@ -29,9 +30,9 @@ abbrev pub epoch_at : List ℕ → ℕ → ℤ
 epoch_at table k = (set_at table k).epoch
 
 -- 1 to 8 and 16 would not refuse a set
-abbrev pub accepts : Verdict → Bool
-accepts Passed = true
-accepts (Refused refusal) = false
+abbrev pub accepts : Result Unit Refusal → Bool
+accepts (Ok tt) = true
+accepts (Err refusal) = false
 
 -- each epoch is after that of the row before, so that none stands twice
 unfoldable pub follows : List ℕ → ℕ → Bool
@@ -57,6 +58,6 @@ unfoldable pub up_to : List ℕ → ℤ → ℕ
 up_to table time = leading (λ k. le_z (epoch_at table k) time) (rows_in (length table))
 
 -- both numbers, of the table at the start of a buffer, or that it is none
-unfoldable pub scanned : List ℕ → ℕ → ℤ → Scan
+unfoldable pub scanned : List ℕ → ℕ → ℤ → Option Split
 scanned buffer size time =
-    cond (is_table_in buffer size) (Sound (before (take size buffer) time) (up_to (take size buffer) time)) Broken
+    cond (is_table_in buffer size) (Some (split_at (before (take size buffer) time) (up_to (take size buffer) time))) None

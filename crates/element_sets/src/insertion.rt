@@ -6,16 +6,9 @@ ghost use Rattle.element_sets.specs.Table.{row_size};
 ghost use Rattle.element_sets.specs.Putting.{putting, stored};
 ghost use Rattle.element_sets.specs.Contract.{OneAtMost, Roomy};
 
-use crate::table::Scan;
-use elements::{Elements, Verdict};
+use crate::table;
+use elements::Elements;
 use refusal::Refusal;
-
-#[derive(Clone, Copy)]
-pub enum Putting {
-    // The bytes of the table with the set.
-    Put(usize),
-    Refused(Refusal),
-}
 
 // Moves the bytes from `at` to `size` up by a row, the last first.
 fn move_up(buffer: &mut [u8], at: usize, size: usize)
@@ -49,22 +42,17 @@ fn place(buffer: &mut [u8], earlier: usize, later: usize, size: usize, elements:
     elements_buffer::write_elements(buffer, 52 * earlier, elements);
 }
 
+// The table's length with the set.
 #[tactic(auto, unfolding(crate::specs::Putting::putting, crate::specs::Putting::with_set))]
-pub fn put(elements: Elements, buffer: &mut [u8], size: usize) -> Putting
+pub fn put(elements: Elements, buffer: &mut [u8], size: usize) -> Result<usize, Refusal>
     ensures { (result ≡ putting elements buffer.old size) × (buffer.new ≡ stored result elements buffer.old size) }
 {
-    let verdict = elements::check(elements);
-    if let Verdict::Refused(refusal) = verdict {
-        return Putting::Refused(refusal);
-    }
-    let scan = crate::table::scan_table(buffer, size, elements.epoch);
-    let Scan::Sound(earlier, later) = scan else {
-        return Putting::Refused(Refusal::Table);
-    };
-    let end = 52 * earlier + 52 + (size - 52 * later);
+    elements::check(elements)?;
+    let split = table::scan_table(buffer, size, elements.epoch).ok_or(Refusal::Table)?;
+    let end = 52 * split.earlier + 52 + (size - 52 * split.up_to);
     if buffer.len() < end {
-        return Putting::Refused(Refusal::Room);
+        return Err(Refusal::Room);
     }
-    place(buffer, earlier, later, size, elements);
-    Putting::Put(end)
+    place(buffer, split.earlier, split.up_to, size, elements);
+    Ok(end)
 }

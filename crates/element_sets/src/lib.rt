@@ -5,5 +5,5 @@ mod insertion;
 mod lookup;
 mod table;
 
-pub use insertion::{Putting, put};
-pub use lookup::{Finding, find, locate};
+pub use insertion::put;
+pub use lookup::{Row, find, locate};

@@ -2,15 +2,14 @@
 ghost use Rattle.std.specs.Prelude.{◌≡◌};
 ghost use Rattle.element_sets.specs.Finding.{finding, refusal_of, RowIs};
 
-use crate::table::Scan;
+use crate::table;
 use refusal::Refusal;
 
-#[derive(Clone, Copy)]
-pub enum Finding {
-    // Each with the number of the row, from 0.
+// A row of one of the tables, by its number from 0.
+#[derive(Clone, Copy, Debug, PartialEq, Eq)]
+pub enum Row {
     Past(usize),
     Forecast(usize),
-    Refused(Refusal),
 }
 
 // Which row of which table.
@@ -21,24 +20,18 @@ pub fn locate(
     forecast: &[u8],
     forecast_size: usize,
     time: i64,
-) -> Finding
+) -> Result<Row, Refusal>
     ensures { result ≡ finding past.now past_size forecast.now forecast_size time }
 {
-    let in_past = crate::table::scan_table(past, past_size, time);
-    let Scan::Sound(_, up_to) = in_past else {
-        return Finding::Refused(Refusal::Table);
-    };
-    let in_forecast = crate::table::scan_table(forecast, forecast_size, time);
-    let Scan::Sound(_, _) = in_forecast else {
-        return Finding::Refused(Refusal::Table);
-    };
-    if 0 < up_to {
-        return Finding::Past(up_to - 1);
+    let in_past = table::scan_table(past, past_size, time).ok_or(Refusal::Table)?;
+    table::scan_table(forecast, forecast_size, time).ok_or(Refusal::Table)?;
+    if 0 < in_past.up_to {
+        return Ok(Row::Past(in_past.up_to - 1));
     }
     if 52 <= forecast_size {
-        return Finding::Forecast(0);
+        return Ok(Row::Forecast(0));
     }
-    Finding::Refused(Refusal::NoSet)
+    Err(Refusal::NoSet)
 }
 
 // The row itself, in its table; where there is none, an empty part, and the refusal's number beside it.
@@ -55,17 +48,17 @@ pub fn find<'a>(
 {
     let found = locate(past, past_size, forecast, forecast_size, time);
     match found {
-        Finding::Past(k) => {
+        Ok(Row::Past(k)) => {
             *refusal = 0;
             let at = 52 * k;
             &past[at..at + 52]
         }
-        Finding::Forecast(k) => {
+        Ok(Row::Forecast(k)) => {
             *refusal = 0;
             let at = 52 * k;
             &forecast[at..at + 52]
         }
-        Finding::Refused(refused) => {
+        Err(refused) => {
             *refusal = refused.number();
             &past[..0]
         }

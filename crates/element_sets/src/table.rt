@@ -4,13 +4,13 @@ ghost use Rattle.std.specs.Int.Signed.{lt_z, le_z};
 ghost use Rattle.elements.specs.Elements.{checked};
 ghost use Rattle.element_sets.specs.Table.{row_size, set_at, epoch_at, accepts, follows, keeps_at, scanned};
 
-use elements::{Elements, Verdict};
+use elements::Elements;
 
+// How many sets have an epoch before a time, and how many one not after it.
 #[derive(Clone, Copy)]
-pub(crate) enum Scan {
-    // How many sets have an epoch before a time, and how many one not after it.
-    Sound(usize, usize),
-    Broken,
+pub(crate) struct Split {
+    pub earlier: usize,
+    pub up_to: usize,
 }
 
 // The set of a row that the table has.
@@ -33,11 +33,7 @@ fn epoch_at(table: &[u8], k: usize) -> i64
 fn accepts(elements: Elements) -> bool
     ensures { result ≡ accepts (checked elements) }
 {
-    let verdict = elements::check(elements);
-    match verdict {
-        Verdict::Passed => true,
-        Verdict::Refused(_) => false,
-    }
+    elements::check(elements).is_ok()
 }
 
 fn is_before(epoch: i64, time: i64) -> bool
@@ -90,7 +86,7 @@ fn counted(n: usize, k: usize, passes: bool) -> usize
     n
 }
 
-fn scan_rows(table: &[u8], time: i64) -> Scan
+fn scan_rows(table: &[u8], time: i64) -> Option<Split>
     requires { length table.now % row_size ≡ 0 }
     ensures { result ≡ scanned table.now (length table.now) time }
 {
@@ -100,25 +96,25 @@ fn scan_rows(table: &[u8], time: i64) -> Scan
     let mut k = 0;
     while k < rows {
         if !keeps(table, k) {
-            return Scan::Broken;
+            return None;
         }
         let epoch = epoch_at(table, k);
         earlier = counted(earlier, k, is_before(epoch, time));
         up_to = counted(up_to, k, is_up_to(epoch, time));
         k += 1;
     }
-    Scan::Sound(earlier, up_to)
+    Some(Split { earlier, up_to })
 }
 
 #[tactic(auto, unfolding(crate::specs::Table::scanned))]
-pub(crate) fn scan_table(buffer: &[u8], size: usize, time: i64) -> Scan
+pub(crate) fn scan_table(buffer: &[u8], size: usize, time: i64) -> Option<Split>
     ensures { result ≡ scanned buffer.now size time }
 {
     if buffer.len() < size {
-        return Scan::Broken;
+        return None;
     }
     if size % 52 != 0 {
-        return Scan::Broken;
+        return None;
     }
     scan_rows(&buffer[..size], time)
 }

@@ -14,11 +14,10 @@ use Rattle.refusal.specs.declared.Refusal.{Refusal}
 use Rattle.time.specs.Range.{in_range}
 use Rattle.time.proofs.Size.{in_range_size}
 use Rattle.elements.specs.declared.Elements.{Elements}
-use Rattle.elements.specs.declared.Verdict.{Verdict}
-use Rattle.elements.specs.declared.Verdict.TheVariants.{Passed, Refused}
 use Rattle.elements.specs.Contract.{Near}
 use Rattle.elements.specs.Elements.{refuse_if, perigee_below, least_motion, checked_to7, checked}
 use Rattle.elements.specs.Time.{times_refused, time_refused, checked_at}
+use Rattle.std.specs.Prelude.{Err, Ok, Result}
 
 pub perigee_beyond : (a e : ℕ) → 10000000 < e → true ≡ perigee_below a e
 unfolding perigee_below
@@ -27,19 +26,19 @@ perigee_beyond a e h =
     sym (lt-ltb (a * (10000000 - e)) 64780000000000 (rw (z, mul-zero a) (omega arith)))
 
 -- one more check, of a verdict and a test that are known
-pub also : {v v' w : Verdict} {f f' : Bool} (r : Refusal) → v ≡ v' → f ≡ f' → w ≡ refuse_if v f r → w ≡ refuse_if v' f' r
+pub also : {v v' w : Result Unit Refusal} {f f' : Bool} (r : Refusal) → v ≡ v' → f ≡ f' → w ≡ refuse_if v f r → w ≡ refuse_if v' f' r
 also r p q e = rw (← p, ← q) e
 
 -- a verdict that stands after a check stood before it, and the check did not fail
-pub record Stood (v : Verdict) (fails : Bool) : Type 0 where
-  pub before : v ≡ Passed
+pub record Stood (v : Result Unit Refusal) (fails : Bool) : Type 0 where
+  pub before : v ≡ Ok tt
   pub holds : fails ≡ false
 
-pub stood : (v : Verdict) (fails : Bool) (r : Refusal) → refuse_if v fails r ≡ Passed → Stood v fails
+pub stood : (v : Result Unit Refusal) (fails : Bool) (r : Refusal) → refuse_if v fails r ≡ Ok tt → Stood v fails
 unfolding refuse_if
-stood (Refused s) fails r e = let z : ◌≡◌ {A = ℕ} 0 1 = cc in absurd (omega arith)
-stood Passed true r e = let z : ◌≡◌ {A = ℕ} 0 1 = cc in absurd (omega arith)
-stood Passed false r e = record { before = refl; holds = refl }
+stood (Err s) fails r e = let z : ◌≡◌ {A = ℕ} 0 1 = cc in absurd (omega arith)
+stood (Ok tt) true r e = let z : ◌≡◌ {A = ℕ} 0 1 = cc in absurd (omega arith)
+stood (Ok tt) false r e = record { before = refl; holds = refl }
 
 pub record Accepted (el : Elements) : Type 0 where
   pub eccentricity_le : el.eccentricity ≤ 9_000_000
@@ -52,7 +51,7 @@ pub record Accepted (el : Elements) : Type 0 where
   pub derivative : Within 1_000_000 el.half_mean_motion_derivative
 
 -- what 5 leaves at least
-pub least_motion_lem : (el : Elements) → checked_to7 el ≡ Passed → 20_000_000 ≤ el.mean_motion
+pub least_motion_lem : (el : Elements) → checked_to7 el ≡ Ok tt → 20_000_000 ≤ el.mean_motion
 unfolding checked_to7
 least_motion_lem el e =
     let n = el.mean_motion in
@@ -60,7 +59,7 @@ least_motion_lem el e =
     let s5 = stood _ _ _ (stood _ _ _ s6'.before).before in
     ltb-false _ _ (or_false (ltb n 20_000_000) (ltb 1_700_000_000 n) s5.holds).0
 
-pub accepted : (el : Elements) → checked el ≡ Passed → Accepted el
+pub accepted : (el : Elements) → checked el ≡ Ok tt → Accepted el
 unfolding checked checked_to7
 accepted el e =
     let a = el.semi_major_axis in
@@ -139,7 +138,7 @@ pub record AcceptedAt (el : Elements) (t : ℤ) : Type 0 where
   pub near : Near el.half_mean_motion_derivative (t -ℤ el.epoch)
   pub is_in_range : in_range t ≡ true
 
-pub accepted_at : (el : Elements) (t : ℤ) → checked_at el t ≡ Passed → AcceptedAt el t
+pub accepted_at : (el : Elements) (t : ℤ) → checked_at el t ≡ Ok tt → AcceptedAt el t
 unfolding checked_at
 accepted_at el t e =
     let s = stood (checked el) (time_refused el t) _ e in

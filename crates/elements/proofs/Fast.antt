@@ -7,15 +7,14 @@ use lib.Dec.{ltb}
 use Rattle.refusal.specs.declared.Refusal.{Refusal}
 use Rattle.refusal.specs.declared.Refusal.TheVariants.{MeanMotion}
 use Rattle.elements.specs.declared.Elements.{Elements}
-use Rattle.elements.specs.declared.Verdict.{Verdict}
-use Rattle.elements.specs.declared.Verdict.TheVariants.{Passed, Refused}
 use Rattle.elements.specs.Elements.{refuse_if, checked_to4, checked_to7, checked}
+use Rattle.std.specs.Prelude.{Err, Ok, Result}
 
 -- what is refused stays refused
-refused_stays : (v : Verdict) (r : Refusal) (t : Bool) (s : Refusal) → refuse_if (refuse_if v true r) t s ≡ refuse_if v true r
+refused_stays : (v : Result Unit Refusal) (r : Refusal) (t : Bool) (s : Refusal) → refuse_if (refuse_if v true r) t s ≡ refuse_if v true r
 unfolding refuse_if
-refused_stays Passed r t s = refl
-refused_stays (Refused q) r t s = refl
+refused_stays (Ok tt) r t s = refl
+refused_stays (Err q) r t s = refl
 
 above : (t : Bool) → (t || true) ≡ true
 above true = refl

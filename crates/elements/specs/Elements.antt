@@ -1,17 +1,15 @@
 -- When elements are refused: document 01, "When the build says no", numbers 1 to 7, 16 and 8, in their order. Assumes nothing.
-use Rattle.std.specs.Prelude.{ℕ, ◌+◌, ◌*◌, ◌-◌, ◌^◌, Bool, true, false, not, ◌||◌, ltb, ℤ, nat_abs}
+use Rattle.std.specs.Prelude.{ℕ, ◌+◌, ◌*◌, ◌-◌, ◌^◌, Bool, true, false, not, ◌||◌, ltb, ℤ, nat_abs, Err, Ok, Result}
 use Rattle.refusal.specs.declared.Refusal.{Refusal}
 use Rattle.refusal.specs.declared.Refusal.TheVariants.{Eccentricity, SemiMajorAxis, PerigeeDistance, Inclination, MeanMotion, DriftRate, EpochRevolution, Time, MeanMotionDerivative}
 use Rattle.time.specs.Range.{in_range}
 use Rattle.elements.specs.declared.Elements.{Elements}
-use Rattle.elements.specs.declared.Verdict.{Verdict}
-use Rattle.elements.specs.declared.Verdict.TheVariants.{Passed, Refused}
 
 -- the first refusal stands
-unfoldable pub refuse_if : Verdict → Bool → Refusal → Verdict
-refuse_if (Refused first) fails refusal = Refused first
-refuse_if Passed true refusal = Refused refusal
-refuse_if Passed false refusal = Passed
+unfoldable pub refuse_if : Result Unit Refusal → Bool → Refusal → Result Unit Refusal
+refuse_if (Err first) fails refusal = Err first
+refuse_if (Ok tt) true refusal = Err refusal
+refuse_if (Ok tt) false refusal = Ok tt
 
 abbrev pub outside : ℕ → ℕ → ℕ → Bool
 outside x low high = ltb x low || ltb high x
@@ -32,10 +30,10 @@ abbrev pub derivative_beyond : ℕ → ℤ → Bool
 derivative_beyond n d = ltb 1_000_000 (nat_abs d) || ltb n (least_motion d)
 
 -- 1 to 4, of an eccentricity, a semi-major axis and an inclination
-abbrev pub checked_to4 : ℕ → ℕ → ℕ → Verdict
+abbrev pub checked_to4 : ℕ → ℕ → ℕ → Result Unit Refusal
 checked_to4 e a i =
     -- 1
-    let c1 = refuse_if Passed (ltb 9_000_000 e) Eccentricity in
+    let c1 = refuse_if (Ok tt) (ltb 9_000_000 e) Eccentricity in
     -- 2
     let c2 = refuse_if c1 (outside a 6_600_000 100_000_000) SemiMajorAxis in
     -- 3
@@ -44,7 +42,7 @@ checked_to4 e a i =
     refuse_if c3 (ltb (2 ^ 31) i) Inclination
 
 -- 1 to 7
-unfoldable pub checked_to7 : Elements → Verdict
+unfoldable pub checked_to7 : Elements → Result Unit Refusal
 checked_to7 el =
     let c4 = checked_to4 el.eccentricity el.semi_major_axis el.inclination in
     -- 5
@@ -56,7 +54,7 @@ checked_to7 el =
     refuse_if c6' (ltb 99_999 el.epoch_revolution) EpochRevolution
 
 -- then 16, then 8 of the epoch
-unfoldable pub checked : Elements → Verdict
+unfoldable pub checked : Elements → Result Unit Refusal
 checked el =
     let c16 = refuse_if (checked_to7 el) (derivative_beyond el.mean_motion el.half_mean_motion_derivative) MeanMotionDerivative in
     refuse_if c16 (not (in_range el.epoch)) Time

@@ -28,29 +28,12 @@ pub struct Elements {
     pub half_mean_motion_derivative: i32,
 }
 
-#[derive(Clone, Copy)]
-pub enum Verdict {
-    Passed,
-    Refused(Refusal),
-}
-
-impl Verdict {
-    // The first refusal stands.
-    #[tactic(auto, unfolding(crate::specs::Elements::refuse_if))]
-    fn refuse_if(self, fails: bool, refusal: Refusal) -> Verdict
-        ensures { result ≡ refuse_if self fails refusal }
-    {
-        match self {
-            Verdict::Refused(first) => Verdict::Refused(first),
-            Verdict::Passed => {
-                if fails {
-                    Verdict::Refused(refusal)
-                } else {
-                    Verdict::Passed
-                }
-            }
-        }
-    }
+// A refusal where a test fails.
+#[tactic(auto, unfolding(crate::specs::Elements::refuse_if))]
+fn refuse_if(fails: bool, refusal: Refusal) -> Result<(), Refusal>
+    ensures { result ≡ refuse_if (Ok tt) fails refusal }
+{
+    if fails { Err(refusal) } else { Ok(()) }
 }
 
 fn outside(x: u32, low: u32, high: u32) -> bool
@@ -87,32 +70,31 @@ fn derivative_beyond(mean_motion: u32, half_derivative: i32) -> bool
 }
 
 // Refusals 1 to 7, then 16, then 8 for the epoch.
-#[tactic(auto, unfolding(crate::specs::Elements::checked, crate::specs::Elements::checked_to7))]
-pub fn check(elements: Elements) -> Verdict
+#[tactic(auto, unfolding(crate::specs::Elements::checked, crate::specs::Elements::checked_to7, crate::specs::Elements::refuse_if))]
+pub fn check(elements: Elements) -> Result<(), Refusal>
     ensures { result ≡ checked elements }
 {
     let beyond = derivative_beyond(elements.mean_motion, elements.half_mean_motion_derivative);
     let dated = time::in_range(elements.epoch);
-    Verdict::Passed
-        .refuse_if(9_000_000 < elements.eccentricity, Refusal::Eccentricity)
-        .refuse_if(
-            outside(elements.semi_major_axis, 6_600_000, 100_000_000),
-            Refusal::SemiMajorAxis,
-        )
-        .refuse_if(
-            perigee_below(elements.semi_major_axis, elements.eccentricity),
-            Refusal::PerigeeDistance,
-        )
-        .refuse_if(0x8000_0000 < elements.inclination, Refusal::Inclination)
-        .refuse_if(
-            outside(elements.mean_motion, 20_000_000, 1_700_000_000),
-            Refusal::MeanMotion,
-        )
-        .refuse_if(rate_beyond(elements.node_rate), Refusal::DriftRate)
-        .refuse_if(rate_beyond(elements.perigee_rate), Refusal::DriftRate)
-        .refuse_if(99_999 < elements.epoch_revolution, Refusal::EpochRevolution)
-        .refuse_if(beyond, Refusal::MeanMotionDerivative)
-        .refuse_if(!dated, Refusal::Time)
+    refuse_if(9_000_000 < elements.eccentricity, Refusal::Eccentricity)?;
+    refuse_if(
+        outside(elements.semi_major_axis, 6_600_000, 100_000_000),
+        Refusal::SemiMajorAxis,
+    )?;
+    refuse_if(
+        perigee_below(elements.semi_major_axis, elements.eccentricity),
+        Refusal::PerigeeDistance,
+    )?;
+    refuse_if(0x8000_0000 < elements.inclination, Refusal::Inclination)?;
+    refuse_if(
+        outside(elements.mean_motion, 20_000_000, 1_700_000_000),
+        Refusal::MeanMotion,
+    )?;
+    refuse_if(rate_beyond(elements.node_rate), Refusal::DriftRate)?;
+    refuse_if(rate_beyond(elements.perigee_rate), Refusal::DriftRate)?;
+    refuse_if(99_999 < elements.epoch_revolution, Refusal::EpochRevolution)?;
+    refuse_if(beyond, Refusal::MeanMotionDerivative)?;
+    refuse_if(!dated, Refusal::Time)
 }
 
 #[tactic(auto, unfolding(crate::specs::Time::times_refused))]
@@ -143,9 +125,10 @@ pub fn time_refused(elements: Elements, time: i64) -> bool
 }
 
 // Refusals 1 to 7 and 16 of the elements, then 8 for the epoch and the time.
-#[tactic(auto, unfolding(crate::specs::Time::checked_at))]
-pub fn check_at(elements: Elements, time: i64) -> Verdict
+#[tactic(auto, unfolding(crate::specs::Time::checked_at, crate::specs::Elements::refuse_if))]
+pub fn check_at(elements: Elements, time: i64) -> Result<(), Refusal>
     ensures { result ≡ checked_at elements time }
 {
-    check(elements).refuse_if(time_refused(elements, time), Refusal::Time)
+    check(elements)?;
+    refuse_if(time_refused(elements, time), Refusal::Time)
 }

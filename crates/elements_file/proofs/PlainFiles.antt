@@ -14,10 +14,10 @@ use Rattle.elements_file.specs.Lines.{named, counted, valued, begun, within}
 use Rattle.elements_file.specs.Fields.{stored}
 use Rattle.elements_file.specs.Reading.{start, ended, step, after_bytes, concluded, parsed}
 use Rattle.elements_file.specs.Plain.{value_after, Numeral, read_number, digit_bytes, value_bytes, name_of, line_of, lines_from, AllDigits, Plain, written_elements}
-use Rattle.elements_file.specs.declared.Parsed.TheVariants.{Whole}
 use Rattle.elements_file.specs.declared.Progress.{Progress}
 use Rattle.elements_file.specs.declared.line.Place.{Place}
 use Rattle.elements_file.specs.declared.line.Place.TheVariants.{Start, Value}
+use Rattle.std.specs.Prelude.{Ok}
 
 -- ---- a number
 grows : (m : ℕ) (ds : List ℕ) → m ≤ value_after m ds
@@ -116,6 +116,6 @@ lines_read line element (suc n) w el h p =
     ∙ rw (l, e) at (lines_read (line + 1) (element + 1) n w (stored el element (read_number (w element))) (omega arith) p)
 
 -- every plain file is taken, and gives the elements that it writes
-pub plain_taken : (w : ℕ → Numeral) → ((k : ℕ) → k < 12 → Plain k (w k)) → length (lines_from 0 12 w) ≤ 65535 → parsed (lines_from 0 12 w) ≡ Whole (written_elements w)
+pub plain_taken : (w : ℕ → Numeral) → ((k : ℕ) → k < 12 → Plain k (w k)) → length (lines_from 0 12 w) ≤ 65535 → parsed (lines_from 0 12 w) ≡ Ok (written_elements w)
 unfolding parsed start concluded stored_from stored
 plain_taken w p h = rw (le-ltb 65535 (length (lines_from 0 12 w)) h, lines_read 1 0 12 w _ (omega arith) p)

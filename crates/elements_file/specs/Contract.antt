@@ -1,13 +1,13 @@
 -- What the reader's functions owe one another. Assumes nothing.
-use Rattle.std.specs.Prelude.{ℕ, ◌+◌, ◌≤◌, ◌<◌}
+use Rattle.std.specs.Prelude.{ℕ, ◌+◌, ◌≤◌, ◌<◌, Err, Ok, Result}
 use Rattle.elements.specs.Contract.{Held}
 use Rattle.elements_file.specs.Numbers.{largest}
-use Rattle.elements_file.specs.declared.Parsed.{Parsed}
-use Rattle.elements_file.specs.declared.Parsed.TheVariants.{Whole, Malformed}
 use Rattle.elements_file.specs.declared.Progress.{Progress}
 use Rattle.elements_file.specs.declared.line.Place.{Place}
 use Rattle.elements_file.specs.declared.line.Place.TheVariants.{Start, Comment, Named, Value, Faulty}
 use Rattle.elements_file.specs.declared.number.Number.{Number}
+use Rattle.elements.specs.declared.Elements.{Elements}
+use Rattle.elements_file.specs.declared.Malformed.{Malformed}
 
 -- an element of the file, and a place in the names
 pub record NameAt (element k : ℕ) : Type 0 where
@@ -36,6 +36,6 @@ pub record Consistent (bytes : ℕ) (s : Progress) : Type 0 where
   pub elements : Held s.elements
 
 -- elements within their types, or a line and an element that the file has
-abbrev pub InBounds : Parsed → Type 0
-InBounds (Whole el) = Held el
-InBounds (Malformed line element fault) = (line ≤ 65_536) × (element ≤ 12)
+abbrev pub InBounds : Result Elements Malformed → Type 0
+InBounds (Ok el) = Held el
+InBounds (Err malformed) = (malformed.line ≤ 65_536) × (malformed.element ≤ 12)

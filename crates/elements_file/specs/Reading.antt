@@ -1,14 +1,18 @@
 -- What an elements file holds: its bytes in turn, each with what it does. Assumes nothing.
-use Rattle.std.specs.Prelude.{ℕ, ◌+◌, cond, List, [], ◌∷◌, eqb, ltb, pos, length}
+use Rattle.std.specs.Prelude.{ℕ, ◌+◌, cond, List, [], ◌∷◌, eqb, ltb, pos, length, Err, Ok, Result}
 use Rattle.elements_file.specs.Fields.{stored}
 use Rattle.elements_file.specs.Lines.{within}
+use Rattle.elements_file.specs.declared.Fault.{Fault}
 use Rattle.elements_file.specs.declared.Fault.TheVariants.{Name, NotWhole, Unended, Missing, TooLong}
-use Rattle.elements_file.specs.declared.Parsed.{Parsed}
-use Rattle.elements_file.specs.declared.Parsed.TheVariants.{Whole, Malformed}
 use Rattle.elements_file.specs.declared.Progress.{Progress}
 use Rattle.elements_file.specs.declared.line.Place.{Place}
 use Rattle.elements_file.specs.declared.line.Place.TheVariants.{Start, Comment, Named, Value, Faulty}
 use Rattle.elements_file.specs.declared.number.Number.{Number}
+use Rattle.elements.specs.declared.Elements.{Elements}
+use Rattle.elements_file.specs.declared.Malformed.{Malformed}
+
+abbrev pub malformed_at : ℕ → ℕ → Fault → Malformed
+malformed_at line element fault = record { line = line; element = element; fault = fault }
 
 -- line 1, no element read
 unfoldable pub start : Progress
@@ -61,15 +65,15 @@ after_bytes s [] = s
 after_bytes s (byte ∷ bytes) = after_bytes (step s byte) bytes
 
 -- the end of the file: between lines, with every element read
-unfoldable pub concluded : Place → Progress → Parsed
-concluded Start s = cond (eqb s.element 12) (Whole s.elements) (Malformed s.line s.element Missing)
-concluded (Faulty fault) s = Malformed s.line s.element fault
-concluded Comment s = Malformed s.line s.element Unended
-concluded (Named k) s = Malformed s.line s.element Unended
-concluded (Value n) s = Malformed s.line s.element Unended
+unfoldable pub concluded : Place → Progress → Result Elements Malformed
+concluded Start s = cond (eqb s.element 12) (Ok s.elements) (Err (malformed_at s.line s.element Missing))
+concluded (Faulty fault) s = Err (malformed_at s.line s.element fault)
+concluded Comment s = Err (malformed_at s.line s.element Unended)
+concluded (Named k) s = Err (malformed_at s.line s.element Unended)
+concluded (Value n) s = Err (malformed_at s.line s.element Unended)
 
-abbrev pub finished : Progress → Parsed
+abbrev pub finished : Progress → Result Elements Malformed
 finished s = concluded s.place s
 
-unfoldable pub parsed : List ℕ → Parsed
-parsed text = cond (ltb 65_535 (length text)) (Malformed 1 0 TooLong) (finished (after_bytes start text))
+unfoldable pub parsed : List ℕ → Result Elements Malformed
+parsed text = cond (ltb 65_535 (length text)) (Err (malformed_at 1 0 TooLong)) (finished (after_bytes start text))

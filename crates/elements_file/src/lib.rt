@@ -8,14 +8,14 @@ mod number;
 
 ghost use Rattle.std.specs.Prelude.{◌≡◌, ◌≤◌};
 ghost use Rattle.elements_file.specs.Contract.{Consistent, Due};
-ghost use Rattle.elements_file.specs.Reading.{start, at, next_line, next_element, ended, step, concluded, parsed};
+ghost use Rattle.elements_file.specs.Reading.{malformed_at, start, at, next_line, next_element, ended, step, concluded, parsed};
 
 use elements::Elements;
 use line::Place;
 use number::Number;
 
 // What a file breaks.
-#[derive(Clone, Copy)]
+#[derive(Clone, Copy, Debug, PartialEq, Eq)]
 pub enum Fault {
     // The line does not begin with the name of the element that is due, and a space.
     Name,
@@ -34,11 +34,12 @@ pub enum Fault {
     TooLong,
 }
 
-#[derive(Clone, Copy)]
-pub enum Parsed {
-    Whole(Elements),
-    // The line from 1, the number from 0 of the element that was due there, and the fault.
-    Malformed(usize, u32, Fault),
+// The line from 1, the number from 0 of the element that was due there, and the fault.
+#[derive(Clone, Copy, Debug, PartialEq, Eq)]
+pub struct Malformed {
+    pub line: usize,
+    pub element: u32,
+    pub fault: Fault,
 }
 
 // How far a file has been read: the line from 1, how many elements have been read, what the line holds so
@@ -148,34 +149,40 @@ fn step(s: Progress, byte: u8) -> Progress
     at(s, line::within(place, s.element, byte))
 }
 
+// The fault of a file where it has been read so far.
+fn malformed_at(s: Progress, fault: Fault) -> Malformed
+    ensures { result ≡ malformed_at s.line s.element fault }
+{
+    Malformed {
+        line: s.line,
+        element: s.element,
+        fault,
+    }
+}
+
 #[tactic(auto, unfolding(crate::specs::Reading::concluded))]
-fn finished(s: Progress) -> Parsed
+fn finished(s: Progress) -> Result<Elements, Malformed>
     ensures { result ≡ concluded s.place s }
 {
-    let place = s.place;
-    match place {
-        Place::Start => {
-            if s.element == 12 {
-                let elements = s.elements;
-                Parsed::Whole(elements)
-            } else {
-                Parsed::Malformed(s.line, s.element, Fault::Missing)
-            }
-        }
-        Place::Faulty(fault) => Parsed::Malformed(s.line, s.element, fault),
-        Place::Comment => Parsed::Malformed(s.line, s.element, Fault::Unended),
-        Place::Named(_) => Parsed::Malformed(s.line, s.element, Fault::Unended),
-        Place::Value(_) => Parsed::Malformed(s.line, s.element, Fault::Unended),
+    match s.place {
+        Place::Start if s.element == 12 => Ok(s.elements),
+        Place::Start => Err(malformed_at(s, Fault::Missing)),
+        Place::Faulty(fault) => Err(malformed_at(s, fault)),
+        Place::Comment | Place::Named(_) | Place::Value(_) => Err(malformed_at(s, Fault::Unended)),
     }
 }
 
 // The elements that a file's bytes give, or its first fault.
 #[tactic(auto, unfolding(crate::specs::Reading::parsed))]
-pub fn parse(text: &[u8]) -> Parsed
+pub fn parse(text: &[u8]) -> Result<Elements, Malformed>
     ensures { result ≡ parsed text.now }
 {
     if 65_535 < text.len() {
-        return Parsed::Malformed(1, 0, Fault::TooLong);
+        return Err(Malformed {
+            line: 1,
+            element: 0,
+            fault: Fault::TooLong,
+        });
     }
     let mut s = start();
     let mut i = 0;

@@ -14,13 +14,6 @@ pub enum Kind {
     Greatest,
 }
 
-// The least or the greatest number, where there are any.
-#[derive(Clone, Copy)]
-pub enum Extreme {
-    Nothing,
-    Held(f32),
-}
-
 fn goes_ahead(kind: Kind, x: f32, y: f32) -> bool
     ensures { result ≡ ahead kind x y }
 {
@@ -36,38 +29,25 @@ fn is_finite(x: f32) -> bool
     if float::is_nan(x) {
         return false;
     }
-    if float::is_infinite(x) { false } else { true }
+    !float::is_infinite(x)
 }
 
-impl Extreme {
-    // The extreme with one number more. Of equals the earlier stands.
-    pub fn with(self, kind: Kind, x: f32) -> Extreme
-        ensures { result ≡ keep kind self x }
-    {
-        match self {
-            Extreme::Nothing => Extreme::Held(x),
-            Extreme::Held(held) => {
-                if goes_ahead(kind, x, held) {
-                    Extreme::Held(x)
-                } else {
-                    Extreme::Held(held)
-                }
-            }
-        }
+// The least or the greatest number, where there are any, with one number more. Of equals the earlier stands.
+pub fn with(extreme: Option<f32>, kind: Kind, x: f32) -> Option<f32>
+    ensures { result ≡ keep kind extreme x }
+{
+    match extreme {
+        Some(held) if !goes_ahead(kind, x, held) => Some(held),
+        _ => Some(x),
     }
+}
 
-    // Whether it can be the extreme of so many finite numbers.
-    pub fn is_of(self, numbers: u32) -> bool
-        ensures { result ≡ is_of numbers self }
-    {
-        match self {
-            Extreme::Nothing => numbers == 0,
-            Extreme::Held(x) => {
-                if numbers == 0 {
-                    return false;
-                }
-                is_finite(x)
-            }
-        }
+// Whether it can be the extreme of so many finite numbers.
+pub fn is_of(extreme: Option<f32>, numbers: u32) -> bool
+    ensures { result ≡ is_of numbers extreme }
+{
+    match extreme {
+        None => numbers == 0,
+        Some(x) => numbers != 0 && is_finite(x),
     }
 }

@@ -11,36 +11,35 @@ use Rattle.integer.proofs.Bounds.{within_more, sfits_within}
 use Rattle.endian.specs.LittleEndian.{le4, le8, bytes4, bytes8}
 use Rattle.endian.proofs.RoundTrip.{back4, back8, back_i64}
 use Rattle.extreme.specs.Extremes.{Finite}
-use Rattle.extreme.specs.declared.Extreme.{Extreme}
-use Rattle.extreme.specs.declared.Extreme.TheVariants.{Nothing, Held}
 use Rattle.scale.specs.Figures.{nothing}
 use Rattle.scale.specs.Contract.{Made}
 use Rattle.scale.specs.declared.Figures.{Figures}
 use Rattle.figures_buffer.specs.FigureBytes.{extreme_at, figures_in, figures_bytes}
+use Rattle.std.specs.Prelude.{None, Option, Some}
 
 pub zeros_nothing : figures_in (replicate 48 0) ≡ nothing
 unfolding figures_in extreme_at nothing
 zeros_nothing = refl
 
 -- the watts that are held
-held_back : (x : Float) → Finite x → Held (of_bits binary32 (le4 (bytes4 (to_bits binary32 x)) 0)) ≡ Held x
+held_back : (x : Float) → Finite x → Some (of_bits binary32 (le4 (bytes4 (to_bits binary32 x)) 0)) ≡ Some x
 held_back x h =
     let bound : to_bits binary32 x < 2 ^ 32 = to_bits-lt binary32 x h.held in
-    ap (λ (n : ℕ). Held (of_bits binary32 n)) (back4 (to_bits binary32 x) bound) ∙ ap Held (of_bits-to_bits binary32 x h.held)
+    ap (λ (n : ℕ). Some (of_bits binary32 n)) (back4 (to_bits binary32 x) bound) ∙ ap Some (of_bits-to_bits binary32 x h.held)
 
 -- all fields that the bytes of figures have, given the extremes
 module _ (f : Figures) (made : Made f) where
   sines_fit : SFits w64 f.sines
   sines_fit = sfits_within (within_more {b = 2 ^ 30 * 1_024_000} made.bounded.sines_bound (omega (arith, made.labels_bound))) tt
 
-  abbrev with : Extreme → Extreme → Figures
+  abbrev with : Option Float → Option Float → Figures
   with a b =
       record { files = f.files; labels = f.labels; dark = f.dark; valid = f.valid; least = a; greatest = b; sines = f.sines; squares = f.squares }
 
   squares_fit : f.squares < 2 ^ 64
   squares_fit = omega (arith, made.bounded.squares_bound, made.labels_bound)
 
-  again : (g : Figures) (a b : Extreme) → g.files ≡ le4 (bytes4 f.files) 0 → g.labels ≡ le4 (bytes4 f.labels) 0 → g.dark ≡ le4 (bytes4 f.dark) 0
+  again : (g : Figures) (a b : Option Float) → g.files ≡ le4 (bytes4 f.files) 0 → g.labels ≡ le4 (bytes4 f.labels) 0 → g.dark ≡ le4 (bytes4 f.dark) 0
       → g.valid ≡ le4 (bytes4 f.valid) 0 → g.least ≡ a → g.greatest ≡ b → g.sines ≡ to_z w64 (le8 (bytes8 (of_z w64 f.sines)) 0) → g.squares ≡ le8 (bytes8 f.squares) 0
       → g ≡ with a b
   again g a b files labels dark valid least greatest sines squares =
@@ -61,12 +60,12 @@ module _ (f : Figures) (made : Made f) where
         squares = squares_are i;
       }
 
-  by : (a b : Extreme) → ((x : Float) → a ≡ Held x → Finite x) → ((x : Float) → b ≡ Held x → Finite x) → figures_in (figures_bytes (with a b)) ≡ with a b
+  by : (a b : Option Float) → ((x : Float) → a ≡ Some x → Finite x) → ((x : Float) → b ≡ Some x → Finite x) → figures_in (figures_bytes (with a b)) ≡ with a b
   unfolding figures_in figures_bytes extreme_at bytes8 bytes4
-  by Nothing Nothing p q = again _ Nothing Nothing refl refl refl refl refl refl refl refl
-  by Nothing (Held y) p q = again _ Nothing (Held y) refl refl refl refl refl (held_back y (q y refl)) refl refl
-  by (Held x) Nothing p q = again _ (Held x) Nothing refl refl refl refl (held_back x (p x refl)) refl refl refl
-  by (Held x) (Held y) p q = again _ (Held x) (Held y) refl refl refl refl (held_back x (p x refl)) (held_back y (q y refl)) refl refl
+  by None None p q = again _ None None refl refl refl refl refl refl refl refl
+  by None (Some y) p q = again _ None (Some y) refl refl refl refl refl (held_back y (q y refl)) refl refl
+  by (Some x) None p q = again _ (Some x) None refl refl refl refl (held_back x (p x refl)) refl refl refl
+  by (Some x) (Some y) p q = again _ (Some x) (Some y) refl refl refl refl (held_back x (p x refl)) (held_back y (q y refl)) refl refl
 
   pub figures_back : figures_in (figures_bytes f) ≡ f
   figures_back = by f.least f.greatest made.least_finite made.greatest_finite

@@ -6,15 +6,15 @@ use lib.ListN.{length, length-append}
 use mir.Syntax.{w64}
 use mir.Val.{of_z}
 use Rattle.endian.specs.LittleEndian.{bytes4, bytes8}
-use Rattle.extreme.specs.declared.Extreme.{Extreme}
-use Rattle.extreme.specs.declared.Extreme.TheVariants.{Nothing, Held}
 use Rattle.scale.specs.declared.Figures.{Figures}
 use Rattle.figures_buffer.specs.FigureBytes.{extreme_bytes, figures_bytes}
+use Rattle.std.specs.Float.Ieee.{Float}
+use Rattle.std.specs.Prelude.{None, Option, Some}
 
-pub extreme_length : (e : Extreme) → length (extreme_bytes e) ≡ 8
+pub extreme_length : (e : Option Float) → length (extreme_bytes e) ≡ 8
 unfolding bytes4
-extreme_length Nothing = refl
-extreme_length (Held x) = refl
+extreme_length None = refl
+extreme_length (Some x) = refl
 
 -- with eight bytes behind
 pub eight_behind : (l piece : List ℕ) {k : ℕ} → length piece ≡ 8 → length l ≡ k → length (l ++ piece) ≡ k + 8

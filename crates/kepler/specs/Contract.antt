@@ -1,12 +1,11 @@
 -- What the functions owe. Assumes nothing.
-use Rattle.std.specs.Prelude.{◌≡◌, ℕ, ◌+◌, ◌-◌, ◌*◌, ◌/◌, ◌^◌, ◌<◌, ◌≤◌, max, cond, nat_le}
+use Rattle.std.specs.Prelude.{◌≡◌, ℕ, ◌+◌, ◌-◌, ◌*◌, ◌/◌, ◌^◌, ◌<◌, ◌≤◌, max, cond, nat_le, Err, Ok, Result}
 use Rattle.kepler.specs.declared.Anomaly.{Anomaly}
-use Rattle.kepler.specs.declared.Solution.{Solution}
-use Rattle.kepler.specs.declared.Solution.TheVariants.{Solved, Refused}
 use Rattle.kepler.specs.Kepler.{equation, anomaly, halvings}
 use Rattle.kepler.specs.Bracket.{Bracketed}
 use Rattle.kepler.specs.Demand.{Demand3}
 use Rattle.kepler.specs.Solution.{solution}
+use Rattle.refusal.specs.declared.Refusal.{Refusal}
 
 -- r angles with a part each, in units of 10^-7, reach what is needed from what there is, and what the cuts take besides
 pub record Reaches (part cuts need have r : ℕ) : Type 0 where
@@ -60,11 +59,11 @@ pub record AnomalyAt (e M : ℕ) (r : Anomaly) : Type 0 where
   pub demand3 : Demand3 e M r.angle
 
 -- by the cases of the answer
-abbrev pub SolutionOwes : ℕ → ℕ → Solution → Type 0
-SolutionOwes e M (Solved r) = AnomalyAt e M r
-SolutionOwes e M (Refused refusal) = 9_000_000 < e
+abbrev pub SolutionOwes : ℕ → ℕ → Result Anomaly Refusal → Type 0
+SolutionOwes e M (Ok r) = AnomalyAt e M r
+SolutionOwes e M (Err refusal) = 9_000_000 < e
 
 -- what the solver owes
-pub record SolvedBy (e M : ℕ) (r : Solution) : Type 0 where
+pub record SolvedBy (e M : ℕ) (r : Result Anomaly Refusal) : Type 0 where
   pub is : r ≡ solution e M
   pub owes : SolutionOwes e M r

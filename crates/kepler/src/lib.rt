@@ -25,12 +25,6 @@ pub struct Anomaly {
     pub halvings: u32,
 }
 
-#[derive(Clone, Copy)]
-pub enum Solution {
-    Solved(Anomaly),
-    Refused(Refusal),
-}
-
 // k at an angle from 0 to a whole turn.
 fn equation(e: u64, angle: u64) -> u64
     requires { (e ≤ 9_000_000) × (angle ≤ 2 ^ 32) }
@@ -104,11 +98,11 @@ pub fn eccentric_anomaly(eccentricity: u32, mean_anomaly: u32) -> Anomaly
 }
 
 // The Kepler solver.
-pub fn solve(eccentricity: u32, mean_anomaly: u32) -> Solution
+pub fn solve(eccentricity: u32, mean_anomaly: u32) -> Result<Anomaly, Refusal>
     ensures { SolvedBy eccentricity mean_anomaly result }
 {
     if 9_000_000 < eccentricity {
-        return Solution::Refused(Refusal::Eccentricity);
+        return Err(Refusal::Eccentricity);
     }
-    Solution::Solved(eccentric_anomaly(eccentricity, mean_anomaly))
+    Ok(eccentric_anomaly(eccentricity, mean_anomaly))
 }

@@ -24,12 +24,6 @@ pub struct Label {
     pub elevation: i32,
 }
 
-#[derive(Clone, Copy)]
-pub enum Decoded {
-    Accepted(Label),
-    Broken,
-}
-
 // A revolution moved up by a multiple of 80, the least that leaves none below zero: its side is the same,
 // and its divisions need no sign.
 fn moved_up(revolution: i32) -> u64
@@ -66,17 +60,17 @@ pub fn encode(label: Label, out: &mut [u8], at: usize)
 }
 
 // The label of a part of a file, where the part is one.
-pub fn decode(part: &[u8]) -> Decoded
+pub fn decode(part: &[u8]) -> Option<Label>
     ensures { result ≡ decoded part.now }
 {
     if part.len() != SIZE {
-        return Decoded::Broken;
+        return None;
     }
     let fields = fields::fields_at(part);
     if rules::keeps_rules(fields) {
-        Decoded::Accepted(fields::label_of(fields))
+        Some(fields::label_of(fields))
     } else {
-        Decoded::Broken
+        None
     }
 }
 

@@ -3,9 +3,8 @@ ghost use Rattle.std.specs.Prelude.{◌≡◌};
 ghost use Rattle.label_file.specs.Tail.{tail_size};
 ghost use Rattle.label_file.specs.Contract.{TailAnswer};
 
-use crate::TailReading;
 use refusal::Refusal;
-use trailer::{Form, TrailerReading};
+use trailer::{Contents, Form};
 
 const MOST: u64 = trailer::LONGEST as u64;
 
@@ -15,19 +14,17 @@ fn tail_size(size: u64) -> u64
     if size < MOST { size } else { MOST }
 }
 
-// The dark test labels of a file of `size` bytes, from its last 24 bytes, or all where it has fewer.
-pub fn read_tail(tail: &[u8], size: u64) -> TailReading
+// The dark test labels of a file of `size` bytes, from its last 24 bytes, or all where it has fewer; none where
+// its trailer does not hold them.
+pub fn read_tail(tail: &[u8], size: u64) -> Result<Option<u32>, Refusal>
     ensures { TailAnswer tail.now size result }
 {
     if tail.len() as u64 != tail_size(size) {
-        return TailReading::Refused(Refusal::Trailer);
+        return Err(Refusal::Trailer);
     }
-    let found = trailer::find(tail, size);
-    let TrailerReading::Allowed(form, stated) = found else {
-        return TailReading::Refused(Refusal::Trailer);
-    };
+    let Contents { form, counts } = trailer::find(tail, size).ok_or(Refusal::Trailer)?;
     match form {
-        Form::Bytes16 => TailReading::NotHeld,
-        Form::Bytes24 => TailReading::Held(stated.dark_test),
+        Form::Bytes16 => Ok(None),
+        Form::Bytes24 => Ok(Some(counts.dark_test)),
     }
 }

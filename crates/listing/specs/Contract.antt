@@ -1,8 +1,6 @@
 -- What the functions owe. Assumes nothing.
-use Rattle.std.specs.Prelude.{◌≡◌, cond, ℕ, ◌*◌, ◌-◌, ◌≤◌, ◌<◌, List, ltb, take, drop}
+use Rattle.std.specs.Prelude.{◌≡◌, cond, ℕ, ◌*◌, ◌-◌, ◌≤◌, ◌<◌, List, ltb, take, drop, None, Option, Some}
 use Rattle.label_file.specs.File.{longest}
-use Rattle.listing.specs.declared.Input.{Input}
-use Rattle.listing.specs.declared.Input.TheVariants.{Whole, Failed}
 
 -- of the first bytes of a window all are kept where it has room for more, else the last, as many as the longest file has
 pub record RoomMade (before : List ℕ) (end : ℕ) (after : List ℕ) (r : ℕ) : Type 0 where
@@ -11,6 +9,6 @@ pub record RoomMade (before : List ℕ) (end : ℕ) (after : List ℕ) (r : ℕ)
   pub kept : take r after ≡ drop (end - r) (take end before)
 
 -- what was read ends within so many bytes
-abbrev pub EndsWithin : ℕ → Input → Type 0
-EndsWithin size (Whole end) = end ≤ size
-EndsWithin size Failed = Unit {0}
+abbrev pub EndsWithin : ℕ → Option ℕ → Type 0
+EndsWithin size (Some end) = end ≤ size
+EndsWithin size None = Unit {0}

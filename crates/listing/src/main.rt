@@ -5,21 +5,14 @@
 ghost use Rattle.std.specs.Prelude.{◌≡◌, ◌*◌, ◌≤◌, length};
 ghost use Rattle.label_file.specs.File.{longest};
 ghost use Rattle.label_file.specs.Reading.{file_reading};
-ghost use Rattle.label_file.specs.declared.FileReading.TheVariants.{Accepted};
+ghost use Rattle.trailer.specs.Counts.{contents_of};
 ghost use Rattle.listing.specs.Contract.{EndsWithin, RoomMade};
 
 use label::Label;
-use label_file::{FileReading, LONGEST};
-use refusal::Refusal;
+use label_file::LONGEST;
+use refusal::RefusedAt;
 use std::io::{self, Read};
-use trailer::{Counts, Form};
-
-// Where the bytes of the input end that a window holds from its start on, or that a read failed.
-#[derive(Drop)]
-enum Input {
-    Whole(usize),
-    Failed,
-}
+use trailer::{Contents, Counts, Form};
 
 // Makes room for more bytes behind the first `end` of a window: of a full one the second half is kept, at
 // its start. The answer is where the kept bytes end.
@@ -44,7 +37,7 @@ fn make_room(window: &mut [u8], end: usize) -> usize
 // could not be read must not be listed. A proved loop has to end, so it counts its turns down, from a number
 // that no run uses up.
 #[tactic(auto, unfolding(label_file::specs::File::longest, trailer::specs::Trailer::trailer_size))]
-fn read_input<R: Read>(input: &mut R, window: &mut [u8]) -> Input
+fn read_input<R: Read>(input: &mut R, window: &mut [u8]) -> Option<usize>
     requires { length window.old ≡ 2 * longest }
     ensures { EndsWithin (2 * longest) result }
 {
@@ -52,15 +45,15 @@ fn read_input<R: Read>(input: &mut R, window: &mut [u8]) -> Input
     let mut turns = u64::MAX;
     while turns > 0 {
         let Ok(more) = input.read(&mut window[end..]) else {
-            return Input::Failed;
+            return None;
         };
         if more == 0 {
-            return Input::Whole(end);
+            return Some(end);
         }
         end = make_room(window, end + more);
         turns -= 1;
     }
-    Input::Failed
+    None
 }
 
 // Time, revolution, side, shade, reading, elevation sine, and the bits of the watts.
@@ -85,8 +78,9 @@ fn print_counts(rt: &impl Print, counts: Counts) -> io::Result<()> {
     )
 }
 
-fn print_refusal(rt: &impl Print, refusal: Refusal, place: u32) -> io::Result<()> {
-    let number = refusal.number();
+fn print_refusal(rt: &impl Print, refused: RefusedAt) -> io::Result<()> {
+    let number = refused.refusal.number();
+    let place = refused.place;
     println!(rt; "refused {number} at {place}")
 }
 
@@ -98,7 +92,7 @@ fn print_failure(rt: &(impl Print + Eprint)) -> io::Result<()> {
 }
 
 fn print_labels(rt: &impl Print, file: &[u8], form: Form, counts: Counts) -> io::Result<()>
-    requires { file_reading file.now ≡ Accepted form counts }
+    requires { file_reading file.now ≡ Ok (contents_of form counts) }
 {
     let labels = counts.labels;
     let mut number = 0;
@@ -111,10 +105,9 @@ fn print_labels(rt: &impl Print, file: &[u8], form: Form, counts: Counts) -> io:
 
 fn list(rt: &impl Print, file: &[u8]) -> io::Result<()> {
     let size = file.len();
-    let answer = label_file::read(file, size);
-    match answer {
-        FileReading::Refused(refusal, place) => print_refusal(rt, refusal, place),
-        FileReading::Accepted(form, counts) => {
+    match label_file::read(file, size) {
+        Err(refused) => print_refusal(rt, refused),
+        Ok(Contents { form, counts }) => {
             print_counts(rt, counts)?;
             print_labels(rt, file, form, counts)
         }
@@ -126,7 +119,7 @@ fn main(rt: HostRuntime) -> io::Result<()> {
     let mut window = [0u8; 2 * LONGEST];
     let input = read_input(&mut rt.reader(), &mut window);
     match input {
-        Input::Failed => print_failure(&rt),
-        Input::Whole(end) => list(&rt, &window[..end]),
+        None => print_failure(&rt),
+        Some(end) => list(&rt, &window[..end]),
     }
 }

@@ -10,12 +10,10 @@ use Rattle.trailer.specs.declared.Counts.{Counts}
 use Rattle.trailer.specs.declared.Form.{Form}
 use Rattle.trailer.specs.declared.Form.TheVariants.{Bytes24}
 use Rattle.label_file.proofs.RoundTrip.{file_length}
-use Rattle.labelling.specs.Records.{records, label_at}
+use Rattle.labelling.specs.Records.{records, label_at, labelled_to}
 use Rattle.labelling.specs.Day.{labelling, output_after}
 use Rattle.labelling.specs.Adding.{adding, buffer_after}
 use Rattle.labelling.specs.Continuing.{moved, Continued}
-use Rattle.labelling.specs.declared.Labelling.{Labelling}
-use Rattle.labelling.specs.declared.Labelling.TheVariants.{Labelled, Refused}
 use Rattle.labelling.proofs.Continuing.{adding_continues}
 use Rattle.labelling.proofs.PassedRecords.{day_passed}
 use Rattle.labelling.proofs.WrittenFile.{end_is, output_is}
@@ -25,9 +23,12 @@ use Rattle.no_leak.specs.Files.{FilesBy, NoLeak}
 use Rattle.no_leak.specs.Adding.{file_for, Adding}
 use Rattle.no_leak.proofs.AlikeRecords.{same_number, joined_alike}
 use Rattle.no_leak.proofs.AtOnce.{labels_number, same_answer, made_files}
+use Rattle.labelling.specs.declared.Labelled.{Labelled}
+use Rattle.refusal.specs.declared.RefusedAt.{RefusedAt}
+use Rattle.std.specs.Prelude.{Err, Ok, Result}
 
 module _ (el : Elements) (one two more more' front front' rest rest' : List ℕ) (form : Form) (room size : ℕ) (counts : Counts) (alike : AlikeDays el one two)
-    (labelled : labelling el one room ≡ Labelled counts size) (alike_more : AlikeDays el more more') (as_much : length front ≡ length front') (as_much_behind : length rest ≡ length rest') where
+    (labelled : labelling el one room ≡ Ok (labelled_to counts size)) (alike_more : AlikeDays el more more') (as_much : length front ≡ length front') (as_much_behind : length rest ≡ length rest') where
   abbrev out : List ℕ
   out = file_for el form one ++ rest
 
@@ -48,30 +49,30 @@ module _ (el : Elements) (one two more more' front front' rest rest' : List ℕ)
   continued' : Continued el two more' front' (file_for el form two) rest'
   continued' = adding_continues el two more' front' rest' form room size counts (sym (same_answer el one two alike refl) ∙ labelled)
 
-  files : (a : Labelling) → labelling el (one ++ more) (length (file_for el form one ++ rest)) ≡ a
+  files : (a : Result Labelled RefusedAt) → labelling el (one ++ more) (length (file_for el form one ++ rest)) ≡ a
       → FilesBy (moved (length front) a) (length front) (front ++ output_after el (one ++ more) (file_for el form one ++ rest)) (front' ++ output_after el (two ++ more') (file_for el form two ++ rest'))
-  files (Refused refusal place) e = tt
-  files (Labelled c end) e =
+  files (Err refused) e = tt
+  files (Ok labelled') e =
       let e' = sym (same_answer el (one ++ more) (two ++ more') all same_room) ∙ e in
-      rw (output_is el (one ++ more) out c end e, output_is el (two ++ more') out' c end e')
-      (made_files el (one ++ more) (two ++ more') all (length out) c end e front front' (drop end out) (drop end out') (length front) (length front + end) refl (sym as_much) refl)
+      rw (output_is el (one ++ more) out labelled'.counts labelled'.end e, output_is el (two ++ more') out' labelled'.counts labelled'.end e')
+      (made_files el (one ++ more) (two ++ more') all (length out) labelled'.counts labelled'.end e front front' (drop labelled'.end out) (drop labelled'.end out') (length front) (length front + labelled'.end) refl (sym as_much) refl)
 
   abbrev n : ℕ
   n = records one + records more
 
   -- how many labels an accepted file has, and where it ends
-  by : (a : Labelling) → labelling el (one ++ more) (length (file_for el form one ++ rest)) ≡ a → (c : Counts) (end : ℕ) → moved (length front) a ≡ Labelled c end
+  by : (a : Result Labelled RefusedAt) → labelling el (one ++ more) (length (file_for el form one ++ rest)) ≡ a → (c : Counts) (end : ℕ) → moved (length front) a ≡ Ok (labelled_to c end)
       → (c.labels ≡ records one + records more) × (end ≡ length front + distance_back Bytes24 (records one + records more))
-  by (Refused refusal place) e c end m = let z : ◌≡◌ {A = ℕ} 0 1 = cc in absurd (omega arith)
-  by (Labelled c' end') e c end m =
+  by (Err refused) e c end m = let z : ◌≡◌ {A = ℕ} 0 1 = cc in absurd (omega arith)
+  by (Ok labelled') e c end m =
       let together = joined_records one more (day_passed el one room counts size labelled).records.whole in
-      let number : c'.labels ≡ n = labels_number el (one ++ more) (length out) c' end' e ∙ together in
-      let ends : end' ≡ distance_back Bytes24 n = end_is el (one ++ more) out c' end' e ∙ ap (distance_back Bytes24) together in
-      let same : c' ≡ c = cc in
-      let moved_end : length front + end' ≡ end = cc in
+      let number : labelled'.counts.labels ≡ n = labels_number el (one ++ more) (length out) labelled'.counts labelled'.end e ∙ together in
+      let ends : labelled'.end ≡ distance_back Bytes24 n = end_is el (one ++ more) out labelled'.counts labelled'.end e ∙ ap (distance_back Bytes24) together in
+      let same : labelled'.counts ≡ c = cc in
+      let moved_end : length front + labelled'.end ≡ end = cc in
       (ap (λ (x : Counts). x.labels) (sym same) ∙ number, sym moved_end ∙ ap (λ (k : ℕ). length front + k) ends)
 
-  pub added_sizes : (c : Counts) (end : ℕ) → adding el (front ++ (file_for el form one ++ rest)) (length front + length (file_for el form one)) more ≡ Labelled c end
+  pub added_sizes : (c : Counts) (end : ℕ) → adding el (front ++ (file_for el form one ++ rest)) (length front + length (file_for el form one)) more ≡ Ok (labelled_to c end)
       → (c.labels ≡ records one + records more) × (end ≡ length front + distance_back Bytes24 (records one + records more))
   added_sizes c end e = by (labelling el (one ++ more) (length out)) refl c end (sym continued.answer_is ∙ e)
 

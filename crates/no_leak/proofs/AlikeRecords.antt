@@ -13,7 +13,6 @@ use lib.Seq.{length-take-le, take-append_seam, drop-append-le, get_or-take, get_
 use Rattle.elements.specs.Elements.{checked}
 use Rattle.elements.specs.Time.{time_refused}
 use Rattle.elements.specs.declared.Elements.{Elements}
-use Rattle.elements.specs.declared.Verdict.TheVariants.{Passed}
 use Rattle.orbit.specs.Placement.{state_of}
 use Rattle.sun.specs.Sun.{sun_of}
 use Rattle.shade.specs.Codes.{shade_code}
@@ -34,6 +33,7 @@ use Rattle.labelling.proofs.Passing.{passes_checked}
 use Rattle.packets.specs.Packet.{unfinished}
 use Rattle.no_leak.specs.Alike.{TrainingRecord, AlikeRecords, AlikeDays}
 use Rattle.no_leak.proofs.AlikeLabels.{SameCounted, counts_alike, SameOnTraining}
+use Rattle.std.specs.Prelude.{Ok}
 
 -- ---- two records
 
@@ -53,11 +53,11 @@ module _ (el : Elements) (r s : Sample) (a : AlikeRecords el r s) where
   same_sample : TrainingRecord el r → r ≡ s
   same_sample t = λ i. record { time = a.same_time i; volts = a.same_volts t i; amperes = a.same_amperes t i }
 
-  training_record : checked el ≡ Passed → passes el r ≡ true → (label_for el r).side ≡ training → TrainingRecord el r
+  training_record : checked el ≡ Ok tt → passes el r ≡ true → (label_for el r).side ≡ training → TrainingRecord el r
   unfolding label_for label_with state_of
   training_record c p t = record { passed = passes_checked el r c p; side = t }
 
-  same_on_training : checked el ≡ Passed → passes el r ≡ true → SameOnTraining (label_for el r) (label_for el s)
+  same_on_training : checked el ≡ Ok tt → passes el r ≡ true → SameOnTraining (label_for el r) (label_for el s)
   same_on_training c p =
       record { same_side = same_counted.same_side; same_label = λ t. ap (label_for el) (same_sample (training_record c p t)) }
 
@@ -81,7 +81,7 @@ module _ (el : Elements) (one two : List ℕ) (alike : AlikeDays el one two) whe
       ∙ ap (counts_of (label_at el two)) same_number
 
   -- where no record is refused
-  module _ (c : checked el ≡ Passed) (passing : (k : ℕ) → k < records one → passes_at el one k ≡ true) where
+  module _ (c : checked el ≡ Ok tt) (passing : (k : ℕ) → k < records one → passes_at el one k ≡ true) where
     pub rules_one : (k : ℕ) → k < records one → LabelRules (label_at el one k)
     unfolding label_at passes_at
     rules_one k b = label_rules el (record_at one k) c (passing k b)

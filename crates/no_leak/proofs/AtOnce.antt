@@ -16,10 +16,8 @@ use Rattle.trailer.specs.declared.Counts.{Counts}
 use Rattle.trailer.specs.declared.Form.TheVariants.{Bytes24}
 use Rattle.trailer.proofs.Tallies.{counts_number, none_plus}
 use Rattle.label_file.specs.File.{file_of, output_refused}
-use Rattle.labelling.specs.Records.{records, label_at, passes_at, telemetry_refused, labelled_records, labelled_telemetry, checked_first}
+use Rattle.labelling.specs.Records.{records, label_at, passes_at, telemetry_refused, labelled_records, labelled_telemetry, checked_first, labelled_to}
 use Rattle.labelling.specs.Day.{labelling, output_after}
-use Rattle.labelling.specs.declared.Labelling.{Labelling}
-use Rattle.labelling.specs.declared.Labelling.TheVariants.{Labelled, Refused}
 use Rattle.labelling.proofs.PassedRecords.{PassedDay, day_passed, day_passes}
 use Rattle.labelling.proofs.WrittenFile.{output_is}
 use Rattle.no_leak.specs.Alike.{AlikeDays}
@@ -27,8 +25,12 @@ use Rattle.no_leak.specs.Files.{SameFiles, FilesBy}
 use Rattle.no_leak.specs.AtOnce.{AtOnce}
 use Rattle.no_leak.proofs.AlikeRecords.{same_number, same_leading, same_counts, rules_one, rules_two, same_training}
 use Rattle.no_leak.proofs.FilesInBuffers.{files_alike}
+use Rattle.labelling.specs.declared.Labelled.{Labelled}
+use Rattle.refusal.specs.Refused.{refused_at}
+use Rattle.refusal.specs.declared.RefusedAt.{RefusedAt}
+use Rattle.std.specs.Prelude.{Err, Ok, Result}
 
-pub labels_number : (el : Elements) (telemetry : List ℕ) (room : ℕ) (counts : Counts) (size : ℕ) → labelling el telemetry room ≡ Labelled counts size → counts.labels ≡ records telemetry
+pub labels_number : (el : Elements) (telemetry : List ℕ) (room : ℕ) (counts : Counts) (size : ℕ) → labelling el telemetry room ≡ Ok (labelled_to counts size) → counts.labels ≡ records telemetry
 labels_number el telemetry room counts size e =
     let c = counts_of (label_at el telemetry) (records telemetry) in
     ap (λ (x : Counts). x.labels) (sym (day_passed el telemetry room counts size e).records.counts_are ∙ none_plus c) ∙ counts_number (label_at el telemetry) (records telemetry)
@@ -44,13 +46,13 @@ module _ (el : Elements) (one two : List ℕ) (alike : AlikeDays el one two) whe
       let n = long i / record_size in
       let labels = no_counts.labels + n in
       checked_first (checked el)
-      (cond (not (eqb (long i % record_size) 0) || ltb 1_024 labels) (Refused TelemetryLength 0)
-      (cond (ltb (same_room i - 0) (distance_back Bytes24 labels)) (Refused OutputLength 0)
-      (cond (ltb (passed i) n) (Refused Time (no_counts.labels + passed i)) (Labelled (no_counts plus counts i) (0 + distance_back Bytes24 labels)))))
+      (cond (not (eqb (long i % record_size) 0) || ltb 1_024 labels) (Err (refused_at TelemetryLength 0))
+      (cond (ltb (same_room i - 0) (distance_back Bytes24 labels)) (Err (refused_at OutputLength 0))
+      (cond (ltb (passed i) n) (Err (refused_at Time (no_counts.labels + passed i))) (Ok (labelled_to (no_counts plus counts i) (0 + distance_back Bytes24 labels))))))
 
   -- ---- where they are labelled
 
-  module _ (room : ℕ) (counts : Counts) (size : ℕ) (labelled : labelling el one room ≡ Labelled counts size) where
+  module _ (room : ℕ) (counts : Counts) (size : ℕ) (labelled : labelling el one room ≡ Ok (labelled_to counts size)) where
     day : PassedDay el one room counts size
     day = day_passed el one room counts size labelled
 
@@ -75,12 +77,12 @@ module _ (el : Elements) (one two : List ℕ) (alike : AlikeDays el one two) whe
         front front' rest rest' first end at at' (omega (arith, ends)))
 
   module _ (output output' : List ℕ) (same_room : length output ≡ length output') where
-    by : (answer : Labelling) → labelling el one (length output) ≡ answer → FilesBy answer 0 (output_after el one output) (output_after el two output')
-    by (Refused refusal place) e = tt
-    by (Labelled counts size) e =
+    by : (answer : Result Labelled RefusedAt) → labelling el one (length output) ≡ answer → FilesBy answer 0 (output_after el one output) (output_after el two output')
+    by (Err refused) e = tt
+    by (Ok labelled') e =
         let e' = sym (same_answer same_room) ∙ e in
-        rw (output_is el one output counts size e, output_is el two output' counts size e')
-        (made_files (length output) counts size e [] [] (drop size output) (drop size output') 0 size refl refl (omega arith))
+        rw (output_is el one output labelled'.counts labelled'.end e, output_is el two output' labelled'.counts labelled'.end e')
+        (made_files (length output) labelled'.counts labelled'.end e [] [] (drop labelled'.end output) (drop labelled'.end output') 0 labelled'.end refl refl (omega arith))
 
 pub at_once : AtOnce
 at_once el one two output output' alike same_room =

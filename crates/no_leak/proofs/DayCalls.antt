@@ -7,7 +7,6 @@ use Rattle.elements.specs.declared.Elements.{Elements}
 use Rattle.elements.specs.Contract.{Held}
 use Rattle.packets.specs.SoFar.{SoFar}
 use Rattle.packets.specs.Cutting.{Given, day_behind}
-use Rattle.packets.specs.declared.Outcome.TheVariants.{Accepted}
 use Rattle.packets.proofs.TakenSoFar.{opening_makes, packet_keeps}
 use Rattle.elements_buffer.specs.Buffer.{elements_of}
 use Rattle.elements_buffer.proofs.ElementsBack.{elements_held}
@@ -20,6 +19,7 @@ use Rattle.no_leak.specs.Calls.{SamePacketCalled, CallByCall, DayCalls}
 use Rattle.no_leak.proofs.PacketSteps.{states_refl}
 use Rattle.no_leak.proofs.PacketDays.{finished, in_packets}
 use Rattle.no_leak.proofs.Calls.{files_called, packet_called, close_calls}
+use Rattle.std.specs.Prelude.{Ok}
 
 -- ---- packets one after another
 
@@ -33,8 +33,8 @@ by_calls el bytes bytes' day day' (g ∷ gs) (h ∷ hs) held s t states as_long 
     let d = day_of day in
     let e = day_of day' in
     let same : SamePacket d e g h = packets.0 in
-    let back : outcome_of d g ≡ Accepted → day_of (day_bytes (day_behind d g)) ≡ day_behind d g = λ accepted. state_back el (bytes ++ g.packet) (day_behind d g) held (packet_keeps el bytes g.packet d (length g.output) s accepted) in
-    let back' : outcome_of e h ≡ Accepted → day_of (day_bytes (day_behind e h)) ≡ day_behind e h = λ accepted. state_back el (bytes' ++ h.packet) (day_behind e h) held (packet_keeps el bytes' h.packet e (length h.output) t accepted) in
+    let back : outcome_of d g ≡ Ok tt → day_of (day_bytes (day_behind d g)) ≡ day_behind d g = λ accepted. state_back el (bytes ++ g.packet) (day_behind d g) held (packet_keeps el bytes g.packet d (length g.output) s accepted) in
+    let back' : outcome_of e h ≡ Ok tt → day_of (day_bytes (day_behind e h)) ≡ day_behind e h = λ accepted. state_back el (bytes' ++ h.packet) (day_behind e h) held (packet_keeps el bytes' h.packet e (length h.output) t accepted) in
     let alike : SamePacketCalled day day' g h = packet_called day day' g h as_long states same back back' in (
       alike,
       λ ended.

@@ -25,16 +25,13 @@ use Rattle.trailer.specs.declared.Counts.{Counts}
 use Rattle.trailer.proofs.Tallies.{none_plus}
 use Rattle.label_file.specs.File.{output_refused}
 use Rattle.labelling.specs.Record.{label_with, label_for, passes}
-use Rattle.labelling.specs.Records.{record_at, records, label_at, passes_at, telemetry_refused, labelled_records, labelled_telemetry}
+use Rattle.labelling.specs.Records.{record_at, records, label_at, passes_at, telemetry_refused, labelled_records, labelled_telemetry, labelled_to}
 use Rattle.labelling.specs.Day.{labelling, output_after}
-use Rattle.labelling.specs.declared.Labelling.TheVariants.{Labelled}
 use Rattle.labelling.proofs.PassedRecords.{day_passed, label_keeps}
 use Rattle.labelling.proofs.WrittenFile.{end_is, output_is}
 use Rattle.label_file.proofs.RoundTrip.{file_length}
 use Rattle.trailer.specs.declared.Form.TheVariants.{Bytes24}
 use Rattle.extreme.specs.Extremes.{keep}
-use Rattle.extreme.specs.declared.Extreme.{Extreme}
-use Rattle.extreme.specs.declared.Extreme.TheVariants.{Nothing, Held}
 use Rattle.extreme.specs.declared.Kind.TheVariants.{Greatest}
 use Rattle.scale.specs.Figures.{watts_in, training_in, nothing, with_label, next_file}
 use Rattle.scale.specs.Step.{figures_allowed, first_labels, scaling}
@@ -45,13 +42,14 @@ use Rattle.no_leak.specs.Alike.{TrainingRecord, AlikeRecords}
 use Rattle.no_leak.specs.Packets.{CutAlike}
 use Rattle.no_leak.specs.Examples.{satellite, five32, six32, nan32, ten, twelve, record_of, three_records, first_day, alike_day, unlike_day, figures_for, greatest_by, AlikeExample, PacketsExample, UnlikeExample}
 use Rattle.no_leak.proofs.FilesInBuffers.{scaled_with, scaled_is}
+use Rattle.std.specs.Prelude.{None, Ok, Option, Some}
 
 -- ---- three records, whatever their volts
 
 module _ (v w x : ℕ) where
-  labelled : labelling satellite (three_records v w x) 96 ≡ Labelled (counts_of (label_at satellite (three_records v w x)) 3) 96
+  labelled : labelling satellite (three_records v w x) 96 ≡ Ok (labelled_to (counts_of (label_at satellite (three_records v w x)) 3) 96)
   unfolding labelling labelled_telemetry telemetry_refused output_refused labelled_records no_counts trailer_size satellite three_records record_of bytes8 bytes4 checked checked_to7 refuse_if perigee_below in_range leading passes_at passes time_refused times_refused record_at sample_of
-  labelled = ap (λ (c : Counts). Labelled c 96) (none_plus (counts_of (label_at satellite (three_records v w x)) 3))
+  labelled = ap (λ (c : Counts). Ok (labelled_to c 96)) (none_plus (counts_of (label_at satellite (three_records v w x)) 3))
 
   sides : ((label_at satellite (three_records v w x) 0).side ≡ training) × ((label_at satellite (three_records v w x) 1).side ≡ withheld) × ((label_at satellite (three_records v w x) 2).side ≡ test)
   unfolding satellite three_records record_of bytes8 bytes4 label_at label_for label_with record_at sample_of state_of revolution node_passages gain advance linear_term whole_turns part_turn quadratic_term drift side_of
@@ -67,7 +65,7 @@ module _ (v w x : ℕ) where
 -- ---- the figures
 
 -- the scale figures with the file that labelling a day makes
-made_figures : (el : Elements) (day output : List ℕ) (counts : Counts) (size : ℕ) (f : Figures) → labelling el day (length output) ≡ Labelled counts size
+made_figures : (el : Elements) (day output : List ℕ) (counts : Counts) (size : ℕ) (f : Figures) → labelling el day (length output) ≡ Ok (labelled_to counts size)
     → scaling f (output_after el day output) size ≡ scaled_with f (training_in (first_labels (label_at el day) (records day)))
 unfolding no_counts
 made_figures el day output counts size f e =
@@ -77,10 +75,10 @@ made_figures el day output counts size f e =
     (scaled_is (label_at el day) (records day) (label_keeps el 0 no_counts day (length output) counts size passed.records passed.elements) few [] (drop size output) size (omega (arith, file_length Bytes24 (label_at el day) (records day), end_is el day output counts size e)) f)
 
 -- the training record alone counts
-greatest_is : (v w x : ℕ) (watts : Float) → (label_at satellite (three_records v w x) 0).reading ≡ Valid watts → greatest_by (figures_for (three_records v w x)) ≡ Held watts
+greatest_is : (v w x : ℕ) (watts : Float) → (label_at satellite (three_records v w x) 0).reading ≡ Valid watts → greatest_by (figures_for (three_records v w x)) ≡ Some watts
 unfolding satellite three_records record_of bytes8 bytes4 label_at label_for label_with record_at sample_of flat_map first_labels nothing with_label next_file figures_allowed is_on state_of revolution node_passages gain advance linear_term whole_turns part_turn quadratic_term drift side_of
 greatest_is v w x watts e =
-    ap greatest_by (made_figures satellite (three_records v w x) (replicate 96 0) _ 96 nothing (labelled v w x)) ∙ ap (λ (r : Reading). foldl (keep Greatest) Nothing (watts_in r)) e
+    ap greatest_by (made_figures satellite (three_records v w x) (replicate 96 0) _ 96 nothing (labelled v w x)) ∙ ap (λ (r : Reading). foldl (keep Greatest) None (watts_in r)) e
 
 -- ---- the days
 
@@ -120,11 +118,11 @@ unlike_volts : (record_at first_day 0).volts ≡ (record_at unlike_day 0).volts 
 unfolding three_records record_of bytes8 bytes4 record_at sample_of of_bits to_bits
 unlike_volts e = let z : ◌≡◌ {A = ℕ} five32 six32 = ap (to_bits binary32) e in omega arith
 
-abbrev bits_of : Extreme → ℕ
-bits_of Nothing = 0
-bits_of (Held x) = to_bits binary32 x
+abbrev bits_of : Option Float → ℕ
+bits_of None = 0
+bits_of (Some x) = to_bits binary32 x
 
-unlike_watts : Held ten ≡ Held twelve → ⊥
+unlike_watts : Some ten ≡ Some twelve → ⊥
 unfolding of_bits to_bits
 unlike_watts e = let z : ◌≡◌ {A = ℕ} 1_092_616_192 1_094_713_344 = ap bits_of e in omega arith
 

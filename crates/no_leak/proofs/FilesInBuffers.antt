@@ -24,14 +24,15 @@ use Rattle.label_file.proofs.Writing.{body_length}
 use Rattle.scale.specs.Figures.{training_in, with_label, next_file}
 use Rattle.scale.specs.Step.{figures_allowed, first_labels, labels_in, scaled_by, scaling}
 use Rattle.scale.specs.declared.Figures.{Figures}
-use Rattle.scale.specs.declared.Scaling.{Scaling}
-use Rattle.scale.specs.declared.Scaling.TheVariants.{Added, Refused}
 use Rattle.no_leak.specs.Files.{SameTraining, SameFiles}
 use Rattle.no_leak.proofs.AlikeLabels.{SameOnTraining, training_same}
+use Rattle.refusal.specs.Refused.{refused_at}
+use Rattle.refusal.specs.declared.RefusedAt.{RefusedAt}
+use Rattle.std.specs.Prelude.{Err, Ok, Result}
 
 -- the figures with a file of these training labels
-abbrev pub scaled_with : Figures → List Label → Scaling
-scaled_with f ls = cond (figures_allowed f) (Added (next_file (foldl with_label f ls))) (Refused refusal.Figures 0)
+abbrev pub scaled_with : Figures → List Label → Result Figures RefusedAt
+scaled_with f ls = cond (figures_allowed f) (Ok (next_file (foldl with_label f ls))) (Err (refused_at refusal.Figures 0))
 
 module _ (label : ℕ → Label) (n : ℕ) where
   part_is : (rest : List ℕ) (k : ℕ) → k < n → part_at (body_of label n ++ rest) k ≡ label_bytes (label k)

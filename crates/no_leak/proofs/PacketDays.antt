@@ -11,7 +11,6 @@ use Rattle.trailer.specs.declared.Counts.{Counts}
 use Rattle.trailer.specs.declared.Form.TheVariants.{Bytes24}
 use Rattle.labelling.specs.Records.{records}
 use Rattle.labelling.specs.Day.{output_after}
-use Rattle.labelling.specs.declared.Labelling.{Labelling}
 use Rattle.labelling.proofs.WrittenFile.{end_is}
 use Rattle.packets.specs.declared.Day.{Day}
 use Rattle.packets.specs.Day.{opening_step}
@@ -27,6 +26,9 @@ use Rattle.no_leak.specs.Packets.{AlikeStates, SameSizes, SamePacket, CutAlike, 
 use Rattle.no_leak.proofs.AlikeRecords.{same_number, pending_alike}
 use Rattle.no_leak.proofs.AtOnce.{labels_number, at_once}
 use Rattle.no_leak.proofs.PacketSteps.{states_refl, one_packet, closing}
+use Rattle.labelling.specs.declared.Labelled.{Labelled}
+use Rattle.refusal.specs.declared.RefusedAt.{RefusedAt}
+use Rattle.std.specs.Prelude.{Result}
 
 -- ---- packets one after another
 
@@ -84,7 +86,7 @@ finished el one two file file' counts counts' alike o o' =
     let labelled = o.accepted (length file) (omega arith) in
     let labelled' = o'.accepted (length file') (omega arith) in
     let as_long = end_is el one file counts (length file) labelled ∙ ap (distance_back Bytes24) (same_number el one two alike) ∙ sym (end_is el two file' counts' (length file') labelled') in
-    let files = subst (λ (a : Labelling). FilesBy a 0 (output_after el one file) (output_after el two file')) labelled (at_once el one two file file' alike as_long).same_files in
+    let files = subst (λ (a : Result Labelled RefusedAt). FilesBy a 0 (output_after el one file) (output_after el two file')) labelled (at_once el one two file file' alike as_long).same_files in
     record {
       same_length = as_long;
       same_files = rw (sym (labels_number el one (length file) counts (length file) labelled))

@@ -22,8 +22,6 @@ use Rattle.trailer.proofs.Trailers.{trailer_length}
 use Rattle.label_file.specs.File.{body_of}
 use Rattle.labelling.specs.Records.{records, label_at, passes_at}
 use Rattle.packets.specs.declared.Day.{Day}
-use Rattle.packets.specs.declared.Outcome.{Outcome}
-use Rattle.packets.specs.declared.Outcome.TheVariants.{Accepted, Refused}
 use Rattle.packets.specs.declared.Step.{Step}
 use Rattle.packets.specs.Day.{is_passed, day_allowed}
 use Rattle.packets.specs.Packet.{pending, completed, next_day, refused_step, packet_step, packet_labels, packet_output, output_by}
@@ -37,6 +35,9 @@ use Rattle.no_leak.specs.Files.{SameTraining}
 use Rattle.no_leak.specs.Packets.{AlikeStates, SameSizes, outcome_of, OnePacket, GivenAlike, SameTaken, ManyPackets, Closing}
 use Rattle.no_leak.proofs.AlikeRecords.{same_number, same_leading, same_counts, rules_one, rules_two, same_training}
 use Rattle.no_leak.proofs.FilesInBuffers.{parts_alike}
+use Rattle.refusal.specs.Refused.{refused_at}
+use Rattle.refusal.specs.declared.RefusedAt.{RefusedAt}
+use Rattle.std.specs.Prelude.{Err, Ok, Result}
 
 -- ---- states
 
@@ -68,7 +69,7 @@ step_by state many short late place d next =
     cond state (refused_step d refusal.Day 0)
     (cond many (refused_step d refusal.TelemetryLength 0)
     (cond short (refused_step d refusal.OutputLength 0)
-    (cond late (refused_step d refusal.Time place) (record { day = next; outcome = Accepted }))))
+    (cond late (refused_step d refusal.Time place) (record { day = next; outcome = Ok tt }))))
 
 steps_alike : (state many short late : Bool) (place : ℕ) (d e next next' : Day) → AlikeStates d e → AlikeStates next next' → AlikeSteps (step_by state many short late place d next) (step_by state many short late place e next')
 steps_alike true many short late place d e next next' before behind = record { same_outcome = refl; alike_days = before }
@@ -78,14 +79,14 @@ steps_alike false false false true place d e next next' before behind = record {
 steps_alike false false false false place d e next next' before behind = record { same_outcome = refl; alike_days = behind }
 
 -- a refusal leaves the state
-step_leaves : (state many short late : Bool) (place : ℕ) (d next : Day) (r : Refusal) (p : ℕ) → (step_by state many short late place d next).outcome ≡ Refused r p → (step_by state many short late place d next).day ≡ d
+step_leaves : (state many short late : Bool) (place : ℕ) (d next : Day) (r : Refusal) (p : ℕ) → (step_by state many short late place d next).outcome ≡ Err (refused_at r p) → (step_by state many short late place d next).day ≡ d
 step_leaves true many short late place d next r p e = refl
 step_leaves false true short late place d next r p e = refl
 step_leaves false false true late place d next r p e = refl
 step_leaves false false false true place d next r p e = refl
 step_leaves false false false false place d next r p e = let z : ◌≡◌ {A = ℕ} 0 1 = cc in absurd (omega arith)
 
-pub refused_leaves : (d : Day) (g : Given) (r : Refusal) (p : ℕ) → outcome_of d g ≡ Refused r p → day_behind d g ≡ d
+pub refused_leaves : (d : Day) (g : Given) (r : Refusal) (p : ℕ) → outcome_of d g ≡ Err (refused_at r p) → day_behind d g ≡ d
 unfolding packet_step
 refused_leaves d g r p e =
     let n = completed d g.packet in
@@ -129,16 +130,16 @@ module _ (d e : Day) (g h : Given) (states : AlikeStates d e) (sizes : SameSizes
       (λ i. step_by (not (allowed i)) (ltb 1_024 ((states.same_counts i).labels + number i)) (ltb (sizes.same_room i) (label_size * number i)) (ltb (passed i) (number i)) ((states.same_counts i).labels + passed i) e (next_day e h.packet))
       (steps_alike (not (day_allowed d)) (ltb 1_024 (before + n)) (ltb (length g.output) (label_size * n)) (ltb lead n) (before + lead) d e (next_day d g.packet) (next_day e h.packet) states next)
 
-  training_labels : outcome_of d g ≡ Accepted → SameTraining (packet_output d g.packet g.output) (packet_output e h.packet h.output) (completed d g.packet)
+  training_labels : outcome_of d g ≡ Ok tt → SameTraining (packet_output d g.packet g.output) (packet_output e h.packet h.output) (completed d g.packet)
   training_labels accepted =
       let el = d.elements in
       let n = completed d g.packet in
       let whole = taken_whole d g.packet (length g.output) accepted in
       let c = (allowed_bare d whole.allowed).elements in
       let passing : (k : ℕ) → k < n → passes_at el one k ≡ true = λ k b. leading_holds (passes_at el one) n k (omega (arith, whole.all)) in
-      let written : packet_output d g.packet g.output ≡ body_of (label_at el one) n ++ drop (length (packet_labels d g.packet)) g.output = ap (λ (o : Outcome). output_by o (packet_labels d g.packet) g.output) accepted in
+      let written : packet_output d g.packet g.output ≡ body_of (label_at el one) n ++ drop (length (packet_labels d g.packet)) g.output = ap (λ (o : Result Unit RefusedAt). output_by o (packet_labels d g.packet) g.output) accepted in
       let written' : packet_output e h.packet h.output ≡ body_of (label_at el two) n ++ drop (length (packet_labels e h.packet)) h.output =
-      ap (λ (o : Outcome). output_by o (packet_labels e h.packet) h.output) (sym step.same_outcome ∙ accepted)
+      ap (λ (o : Result Unit RefusedAt). output_by o (packet_labels e h.packet) h.output) (sym step.same_outcome ∙ accepted)
       ∙ (λ i. body_of (label_at (sym states.same_elements i) two) (sym number i) ++ drop (length (packet_labels e h.packet)) h.output) in
       rw (written, written') (parts_alike (label_at el one) (label_at el two) n (rules_one el one two alike c passing) (rules_two el one two alike c passing) (same_training el one two alike c passing) _ _)
 
@@ -169,8 +170,8 @@ closing d e last last' s same_room =
     let same : (closing_step d (length last)).outcome ≡ (closing_step e (length last')).outcome =
     (steps_alike (not (day_allowed d)) (not (eqb d.have 0)) (ltb (length last) (trailer_size Bytes24)) false 0 d e (closed_day d) (closed_day e) s (closed_alike d e s)).same_outcome
     ∙ (λ i. (step_by (not (allowed i)) (not (eqb (s.same_have i) 0)) (ltb (same_room i) (trailer_size Bytes24)) false 0 e (closed_day e)).outcome) in
-    let trailer : (x : Day) (l : List ℕ) → (closing_step x (length l)).outcome ≡ Accepted → take (trailer_size Bytes24) (closing_output x l) ≡ trailer_bytes Bytes24 x.counts =
-    λ x l a. ap (λ (o : Outcome). take (trailer_size Bytes24) (output_by o (trailer_bytes Bytes24 x.counts) l)) a ∙ take_at (trailer_bytes Bytes24 x.counts) _ (trailer_size Bytes24) (trailer_length Bytes24 x.counts) in
+    let trailer : (x : Day) (l : List ℕ) → (closing_step x (length l)).outcome ≡ Ok tt → take (trailer_size Bytes24) (closing_output x l) ≡ trailer_bytes Bytes24 x.counts =
+    λ x l a. ap (λ (o : Result Unit RefusedAt). take (trailer_size Bytes24) (output_by o (trailer_bytes Bytes24 x.counts) l)) a ∙ take_at (trailer_bytes Bytes24 x.counts) _ (trailer_size Bytes24) (trailer_length Bytes24 x.counts) in
     record {
       same_outcome = same;
       same_trailer = λ a. trailer d last a ∙ ap (trailer_bytes Bytes24) s.same_counts ∙ sym (trailer e last' (sym same ∙ a));

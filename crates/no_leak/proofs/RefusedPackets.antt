@@ -10,14 +10,14 @@ use Rattle.packets.specs.Packet.{pending, unfinished}
 use Rattle.packets.specs.SoFar.{SoFar}
 use Rattle.packets.specs.Cutting.{Given, all_bytes, day_behind, day_from, AllAccepted}
 use Rattle.packets.specs.declared.Day.{Day}
-use Rattle.packets.specs.declared.Outcome.{Outcome}
-use Rattle.packets.specs.declared.Outcome.TheVariants.{Accepted, Refused}
 use Rattle.packets.proofs.TakenSoFar.{opening_makes, packet_keeps}
 use Rattle.no_leak.specs.Alike.{AlikeDays}
 use Rattle.no_leak.specs.Packets.{AlikeStates, SameSizes, outcome_of, SamePacket, GivenAlike, CutAlike, kept_by, kept, SomeRefused}
 use Rattle.no_leak.proofs.AlikeRecords.{grown_alike}
 use Rattle.no_leak.proofs.PacketSteps.{states_refl, refused_leaves, one_packet}
 use Rattle.no_leak.proofs.PacketDays.{pending_is, elements_are, in_packets}
+use Rattle.refusal.specs.declared.RefusedAt.{RefusedAt}
+use Rattle.std.specs.Prelude.{Err, Ok, Result}
 
 -- packets ks of gs, and ls of hs, behind some bytes
 record Kept (el : Elements) (bytes bytes' : List ℕ) (d e : Day) (gs hs ks ls : List Given) : Type 0 where
@@ -38,9 +38,9 @@ module _ (el : Elements) (bytes bytes' : List ℕ) (d e : Day) (g h : Given) (gs
   abbrev Rest : Type 0
   Rest = (b b' : List ℕ) → SoFar el b next → SoFar el b' next' → AlikeDays el b b' → Kept el b b' next next' gs hs (kept next gs) (kept next' hs)
 
-  one_more : Rest → (o : Outcome) → outcome_of d g ≡ o → Kept el bytes bytes' d e (g ∷ gs) (h ∷ hs) (kept_by o g (kept next gs)) (kept_by o h (kept next' hs))
+  one_more : Rest → (o : Result Unit RefusedAt) → outcome_of d g ≡ o → Kept el bytes bytes' d e (g ∷ gs) (h ∷ hs) (kept_by o g (kept next gs)) (kept_by o h (kept next' hs))
   unfolding all_bytes day_from AllAccepted CutAlike
-  one_more rest Accepted a =
+  one_more rest (Ok tt) a =
       let p = g.packet in
       let q = h.packet in
       let waiting : AlikeDays el (unfinished bytes ++ p) (unfinished bytes' ++ q) =
@@ -54,9 +54,9 @@ module _ (el : Elements) (bytes bytes' : List ℕ) (d e : Day) (g h : Given) (gs
         cut = (sizes, r.cut);
         alike = rw (sym (append_assoc bytes p (all_bytes (kept next gs))), sym (append_assoc bytes' q (all_bytes (kept next' hs)))) r.alike;
       }
-  one_more rest (Refused refusal place) a =
-      let is = refused_leaves d g refusal place a in
-      let is' = refused_leaves e h refusal place (sym same.same_outcome ∙ a) in
+  one_more rest (Err refused') a =
+      let is = refused_leaves d g refused'.refusal refused'.place a in
+      let is' = refused_leaves e h refused'.refusal refused'.place (sym same.same_outcome ∙ a) in
       let r = rest bytes bytes' (subst (SoFar el bytes) (sym is) s) (subst (SoFar el bytes') (sym is') t) alike in
       record {
         accepted = subst (λ (x : Day). AllAccepted x (kept next gs)) is r.accepted;
@@ -75,7 +75,7 @@ keeps el bytes bytes' d e [] (h ∷ hs) s t states alike given = absurd given
 keeps el bytes bytes' d e (g ∷ gs) [] s t states alike given = absurd given
 keeps el bytes bytes' d e (g ∷ gs) (h ∷ hs) s t states alike given =
     let same = one_packet d e g h states given.0 given.1 in
-    subst (λ (o : Outcome). Kept el bytes bytes' d e (g ∷ gs) (h ∷ hs) (kept d (g ∷ gs)) (kept_by o h (kept (day_behind e h) hs))) same.same_outcome
+    subst (λ (o : Result Unit RefusedAt). Kept el bytes bytes' d e (g ∷ gs) (h ∷ hs) (kept d (g ∷ gs)) (kept_by o h (kept (day_behind e h) hs))) same.same_outcome
     (one_more el bytes bytes' d e g h gs hs s t given.0 same alike given.1
     (λ b b' u v a. keeps el b b' (day_behind d g) (day_behind e h) gs hs u v same.alike_states a given.2) (outcome_of d g) refl)
 

@@ -1,14 +1,13 @@
 -- No leak in telemetry that is added to a file. `adding` is what `labelling::add` answers, and `buffer_after` the buffer afterwards, by its
 -- contract. Assumes nothing.
-use Rattle.std.specs.Prelude.{◌≡◌, ℕ, ◌+◌, List, ◌++◌, length}
+use Rattle.std.specs.Prelude.{◌≡◌, ℕ, ◌+◌, List, ◌++◌, length, Ok}
 use Rattle.elements.specs.declared.Elements.{Elements}
 use Rattle.trailer.specs.declared.Counts.{Counts}
 use Rattle.trailer.specs.declared.Form.{Form}
 use Rattle.label_file.specs.File.{file_of}
-use Rattle.labelling.specs.Records.{records, label_at}
+use Rattle.labelling.specs.Records.{records, label_at, labelled_to}
 use Rattle.labelling.specs.Day.{labelling}
 use Rattle.labelling.specs.Adding.{adding, buffer_after}
-use Rattle.labelling.specs.declared.Labelling.TheVariants.{Labelled}
 use Rattle.no_leak.specs.Alike.{AlikeDays}
 use Rattle.no_leak.specs.Files.{NoLeak}
 
@@ -27,5 +26,5 @@ Adding =
     let buffer' = front' ++ (file' ++ rest') in
     let used = length front + length file in
     let used' = length front' + length file' in
-    AlikeDays el one two → labelling el one room ≡ Labelled counts size → AlikeDays el more more' → length front ≡ length front' → length rest ≡ length rest'
+    AlikeDays el one two → labelling el one room ≡ Ok (labelled_to counts size) → AlikeDays el more more' → length front ≡ length front' → length rest ≡ length rest'
     → NoLeak (length front) (adding el buffer used more) (adding el buffer' used' more') (buffer_after el buffer used more) (buffer_after el buffer' used' more')

@@ -1,8 +1,7 @@
 -- Days of telemetry that are alike: document 01, "Telemetry and labels". Assumes nothing.
-use Rattle.std.specs.Prelude.{◌≡◌, ℕ, ◌<◌, List, length}
+use Rattle.std.specs.Prelude.{◌≡◌, ℕ, ◌<◌, List, length, Ok}
 use Rattle.elements.specs.Time.{checked_at}
 use Rattle.elements.specs.declared.Elements.{Elements}
-use Rattle.elements.specs.declared.Verdict.TheVariants.{Passed}
 use Rattle.orbit.specs.Revolution.{revolution}
 use Rattle.telemetry.specs.declared.Sample.{Sample}
 use Rattle.label.specs.Sides.{training, side_of}
@@ -11,7 +10,7 @@ use Rattle.labelling.specs.Records.{record_at, records}
 -- a record whose label is on the training side: neither the elements nor its time is refused, so that it has a label, and the side of
 -- its own revolution with the day's elements is training
 pub record TrainingRecord (el : Elements) (r : Sample) : Type 0 where
-  pub passed : checked_at el r.time ≡ Passed
+  pub passed : checked_at el r.time ≡ Ok tt
   pub side : side_of (revolution el r.time) ≡ training
 
 -- the same time, and for a training record the same volts and amperes; those of another differ freely

@@ -1,7 +1,7 @@
 -- The theorems are not empty, and what alike asks is needed: two days that are alike and differ, and a third that differs in a training
 -- record and has other figures. The checker computes times, sides and readings; the figures follow by the law of files in buffers. Assumes
 -- nothing.
-use Rattle.std.specs.Prelude.{◌≡◌, ℕ, ◌^◌, List, [], ◌∷◌, ◌++◌, pos, Float, length, take, drop, replicate}
+use Rattle.std.specs.Prelude.{◌≡◌, ℕ, ◌^◌, List, [], ◌∷◌, ◌++◌, pos, Float, length, take, drop, replicate, Err, None, Ok, Option, Result, Some}
 use Rattle.std.specs.Float.{binary32}
 use Rattle.std.specs.Float.Ieee.{of_bits}
 use Rattle.endian.specs.LittleEndian.{bytes4, bytes8}
@@ -9,20 +9,16 @@ use Rattle.elements.specs.declared.Elements.{Elements}
 use Rattle.telemetry.specs.declared.Reading.TheVariants.{Missing, Valid}
 use Rattle.label.specs.Sides.{withheld, training, test}
 use Rattle.trailer.specs.Counts.{counts_of}
-use Rattle.extreme.specs.declared.Extreme.{Extreme}
-use Rattle.extreme.specs.declared.Extreme.TheVariants.{Nothing, Held}
-use Rattle.labelling.specs.Records.{record_at, label_at}
+use Rattle.labelling.specs.Records.{record_at, label_at, labelled_to}
 use Rattle.labelling.specs.Day.{labelling, output_after}
-use Rattle.labelling.specs.declared.Labelling.TheVariants.{Labelled}
 use Rattle.scale.specs.Figures.{nothing}
 use Rattle.scale.specs.Step.{scaling}
-use Rattle.scale.specs.declared.Scaling.{Scaling}
-use Rattle.scale.specs.declared.Scaling.TheVariants as scaled
 use Rattle.packets.specs.Day.{opening_step}
 use Rattle.packets.specs.Cutting.{Given, all_bytes}
-use Rattle.packets.specs.declared.Outcome.TheVariants.{Accepted}
 use Rattle.no_leak.specs.Alike.{AlikeDays}
 use Rattle.no_leak.specs.Packets.{CutAlike}
+use Rattle.refusal.specs.declared.RefusedAt.{RefusedAt}
+use Rattle.scale.specs.declared.Figures.{Figures}
 
 -- ---- the days
 
@@ -83,25 +79,25 @@ unlike_day = three_records six32 five32 five32
 
 -- ---- the figures with the file of a day
 
-abbrev pub figures_for : List ℕ → Scaling
+abbrev pub figures_for : List ℕ → Result Figures RefusedAt
 figures_for day = scaling nothing (output_after satellite day (replicate 96 0)) 96
 
 -- the greatest watts among them
-abbrev pub greatest_by : Scaling → Extreme
-greatest_by (scaled.Added f) = f.greatest
-greatest_by (scaled.Refused refusal place) = Nothing
+abbrev pub greatest_by : Result Figures RefusedAt → Option Float
+greatest_by (Ok f) = f.greatest
+greatest_by (Err refused) = None
 
 -- ---- what the days show
 
 -- The first day is labelled, with a label on each side. The second is alike to it, and differs in the volts, and so in the labels, of the
 -- withheld record and of the test record; the figures do not have the 12 watts of the withheld one (law `alike_days`).
 pub record AlikeExample : Type 0 where
-  pub labelled : labelling satellite first_day 96 ≡ Labelled (counts_of (label_at satellite first_day) 3) 96
+  pub labelled : labelling satellite first_day 96 ≡ Ok (labelled_to (counts_of (label_at satellite first_day) 3) 96)
   pub sides : ((label_at satellite first_day 0).side ≡ training) × ((label_at satellite first_day 1).side ≡ withheld) × ((label_at satellite first_day 2).side ≡ test)
   pub alike : AlikeDays satellite first_day alike_day
   pub withheld_reading : ((label_at satellite first_day 1).reading ≡ Valid ten) × ((label_at satellite alike_day 1).reading ≡ Valid twelve)
   pub test_reading : ((label_at satellite first_day 2).reading ≡ Valid ten) × ((label_at satellite alike_day 2).reading ≡ Missing)
-  pub greatest : (greatest_by (figures_for first_day) ≡ Held ten) × (greatest_by (figures_for alike_day) ≡ Held ten)
+  pub greatest : (greatest_by (figures_for first_day) ≡ Some ten) × (greatest_by (figures_for alike_day) ≡ Some ten)
 
 -- a day in two packets, cut within its second record
 abbrev pub two_packets : List ℕ → List Given
@@ -109,7 +105,7 @@ two_packets day = record { packet = take 20 day; output = replicate 72 0 } ∷ r
 
 -- So cut, the first two days are alike and cut alike, and their elements open a day (law `alike_packets`).
 pub record PacketsExample : Type 0 where
-  pub opened : (opening_step satellite).outcome ≡ Accepted
+  pub opened : (opening_step satellite).outcome ≡ Ok tt
   pub alike : AlikeDays satellite (all_bytes (two_packets first_day)) (all_bytes (two_packets alike_day))
   pub cut_alike : CutAlike (two_packets first_day) (two_packets alike_day)
 
@@ -120,5 +116,5 @@ pub record UnlikeExample : Type 0 where
   pub same_amperes : (record_at first_day 0).amperes ≡ (record_at unlike_day 0).amperes
   pub same_others : (record_at first_day 1 ≡ record_at unlike_day 1) × (record_at first_day 2 ≡ record_at unlike_day 2)
   pub not_alike : AlikeDays satellite first_day unlike_day → ⊥
-  pub greatest : (greatest_by (figures_for first_day) ≡ Held ten) × (greatest_by (figures_for unlike_day) ≡ Held twelve)
+  pub greatest : (greatest_by (figures_for first_day) ≡ Some ten) × (greatest_by (figures_for unlike_day) ≡ Some twelve)
   pub other_figures : figures_for first_day ≡ figures_for unlike_day → ⊥

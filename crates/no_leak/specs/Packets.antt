@@ -1,19 +1,18 @@
 -- No leak in a day that comes in packets. `packet_step` and `closing_step` are what `packets::take_packet` and `packets::close_day` give, and
 -- `packet_output` and `closing_output` the outputs afterwards, by their contracts. Assumes nothing.
-use Rattle.std.specs.Prelude.{◌≡◌, ℕ, List, [], ◌∷◌, length, take}
+use Rattle.std.specs.Prelude.{◌≡◌, ℕ, List, [], ◌∷◌, length, take, Err, Ok, Result}
 use Rattle.elements.specs.declared.Elements.{Elements}
 use Rattle.trailer.specs.Trailer.{trailer_size}
 use Rattle.trailer.specs.declared.Form.TheVariants.{Bytes24}
 use Rattle.labelling.specs.Records.{records}
 use Rattle.packets.specs.declared.Day.{Day}
-use Rattle.packets.specs.declared.Outcome.{Outcome}
-use Rattle.packets.specs.declared.Outcome.TheVariants.{Accepted, Refused}
 use Rattle.packets.specs.Day.{opening_step}
 use Rattle.packets.specs.Packet.{pending, completed, packet_step, packet_output}
 use Rattle.packets.specs.Closing.{closing_step, closing_output}
 use Rattle.packets.specs.Cutting.{Given, all_bytes, day_behind, day_from, AllAccepted, file_from}
 use Rattle.no_leak.specs.Alike.{AlikeDays}
 use Rattle.no_leak.specs.Files.{SameTraining, SameFiles}
+use Rattle.refusal.specs.declared.RefusedAt.{RefusedAt}
 
 -- ---- one packet
 
@@ -29,14 +28,14 @@ pub record SameSizes (g h : Given) : Type 0 where
   pub same_length : length g.packet ≡ length h.packet
   pub same_room : length g.output ≡ length h.output
 
-abbrev pub outcome_of : Day → Given → Outcome
+abbrev pub outcome_of : Day → Given → Result Unit RefusedAt
 outcome_of d g = (packet_step d g.packet (length g.output)).outcome
 
 -- refused alike or both accepted, with as many labels; the training labels that an accepted packet writes; and the states behind it
 pub record SamePacket (d e : Day) (g h : Given) : Type 0 where
   pub same_outcome : outcome_of d g ≡ outcome_of e h
   pub same_number : completed d g.packet ≡ completed e h.packet
-  pub same_training : outcome_of d g ≡ Accepted
+  pub same_training : outcome_of d g ≡ Ok tt
       → SameTraining (packet_output d g.packet g.output) (packet_output e h.packet h.output) (completed d g.packet)
   pub alike_states : AlikeStates (day_behind d g) (day_behind e h)
 
@@ -72,7 +71,7 @@ ManyPackets = (d e : Day) (gs hs : List Given) → AlikeStates d e → GivenAlik
 -- refused alike, or both accepted with the same trailer
 pub record SameClosing (d e : Day) (last last' : List ℕ) : Type 0 where
   pub same_outcome : (closing_step d (length last)).outcome ≡ (closing_step e (length last')).outcome
-  pub same_trailer : (closing_step d (length last)).outcome ≡ Accepted
+  pub same_trailer : (closing_step d (length last)).outcome ≡ Ok tt
       → take (trailer_size Bytes24) (closing_output d last) ≡ take (trailer_size Bytes24) (closing_output e last')
 
 -- from any two alike states, with the same room for the trailer (theorem `closing`)
@@ -93,7 +92,7 @@ unfoldable pub PacketByPacket : Day → Day → List Given → List Given → Ty
 PacketByPacket d e [] [] = Unit {0}
 PacketByPacket d e [] (h ∷ hs) = ⊥
 PacketByPacket d e (g ∷ gs) [] = ⊥
-PacketByPacket d e (g ∷ gs) (h ∷ hs) = SamePacket d e g h × (outcome_of d g ≡ Accepted → PacketByPacket (day_behind d g) (day_behind e h) gs hs)
+PacketByPacket d e (g ∷ gs) (h ∷ hs) = SamePacket d e g h × (outcome_of d g ≡ Ok tt → PacketByPacket (day_behind d g) (day_behind e h) gs hs)
 
 -- two finished files of n labels
 pub record SameFinished (n : ℕ) (file file' : List ℕ) : Type 0 where
@@ -104,7 +103,7 @@ pub record SameFinished (n : ℕ) (file file' : List ℕ) : Type 0 where
 pub record SameDay (d : Day) (gs hs : List Given) (last last' : List ℕ) : Type 0 where
   pub all_accepted : AllAccepted d hs
   pub same_closing : SameClosing (day_from d gs) (day_from d hs) last last'
-  pub finished : (closing_step (day_from d gs) (length last)).outcome ≡ Accepted → SameFinished (records (all_bytes gs)) (file_from d gs last) (file_from d hs last')
+  pub finished : (closing_step (day_from d gs) (length last)).outcome ≡ Ok tt → SameFinished (records (all_bytes gs)) (file_from d gs last) (file_from d hs last')
 
 pub record NoLeakIn (d : Day) (gs hs : List Given) (last last' : List ℕ) : Type 0 where
   pub packet_by_packet : PacketByPacket d d gs hs
@@ -113,15 +112,15 @@ pub record NoLeakIn (d : Day) (gs hs : List Given) (last last' : List ℕ) : Typ
 -- two alike days that are cut alike, opened with the same elements, and the same room for the trailer (theorem `in_packets`)
 abbrev pub InPackets : Type 0
 InPackets =
-    (el : Elements) (gs hs : List Given) (last last' : List ℕ) → (opening_step el).outcome ≡ Accepted → AlikeDays el (all_bytes gs) (all_bytes hs) → CutAlike gs hs
+    (el : Elements) (gs hs : List Given) (last last' : List ℕ) → (opening_step el).outcome ≡ Ok tt → AlikeDays el (all_bytes gs) (all_bytes hs) → CutAlike gs hs
     → length last ≡ length last' → NoLeakIn (opening_step el).day gs hs last last'
 
 -- ---- a day of which some packets are refused
 
 -- the packets that are accepted
-abbrev pub kept_by : Outcome → Given → List Given → List Given
-kept_by Accepted g gs = g ∷ gs
-kept_by (Refused refusal place) g gs = gs
+abbrev pub kept_by : Result Unit RefusedAt → Given → List Given → List Given
+kept_by (Ok tt) g gs = g ∷ gs
+kept_by (Err refused') g gs = gs
 
 unfoldable pub kept : Day → List Given → List Given
 kept d [] = []
@@ -137,5 +136,5 @@ pub record SameKept (d : Day) (gs hs : List Given) (last last' : List ℕ) : Typ
 -- where each two packets, as the states take them, complete alike records (theorem `some_refused`)
 abbrev pub SomeRefused : Type 0
 SomeRefused =
-    (el : Elements) (gs hs : List Given) (last last' : List ℕ) → let d = (opening_step el).day in (opening_step el).outcome ≡ Accepted → GivenAlike d d gs hs → length last ≡ length last'
+    (el : Elements) (gs hs : List Given) (last last' : List ℕ) → let d = (opening_step el).day in (opening_step el).outcome ≡ Ok tt → GivenAlike d d gs hs → length last ≡ length last'
     → SameKept d gs hs last last'

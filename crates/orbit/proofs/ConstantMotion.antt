@@ -13,8 +13,6 @@ use Rattle.integer.proofs.Parts.{parts_add}
 use Rattle.refusal.specs.declared.Refusal.TheVariants.{MeanMotionDerivative}
 use Rattle.elements.specs.declared.Elements.{Elements}
 use Rattle.orbit.specs.ConstantMotion.{anomaly_sum, constant_anomaly, constant_revolution, constant_checked, constant_checked_at, constant_state, ConstantMotion}
-use Rattle.elements.specs.declared.Verdict.{Verdict}
-use Rattle.elements.specs.declared.Verdict.TheVariants.{Passed, Refused}
 use Rattle.elements.specs.Elements.{refuse_if, derivative_beyond, checked_to7, checked}
 use Rattle.orbit.specs.Placement.{state_with, state_of, placement}
 use Rattle.orbit.specs.Revolution.{gain, revolution}
@@ -22,6 +20,8 @@ use Rattle.elements.specs.Time.{times_refused, time_refused, checked_at}
 use Rattle.orbit.specs.Turns.{elapsed_of, whole_turns, linear_term, quadratic_term, advance, mean_anomaly}
 use Rattle.elements.proofs.Accepted.{least_motion_lem}
 use Rattle.orbit.proofs.AdvanceAndDrift.{part_below, linear_parts}
+use Rattle.refusal.specs.declared.Refusal.{Refusal}
+use Rattle.std.specs.Prelude.{Err, Ok, Result}
 
 -- ---- the sum of two cases wraps
 module _ (el : Elements) (t : ℤ) (held : el.mean_anomaly < 2 ^ 32) where
@@ -69,10 +69,10 @@ module _ (el : Elements) (t : ℤ) (none : el.half_mean_motion_derivative ≡ po
   count = rw linear_alone
 
   -- 16 is not given: a mean motion that passes 5 is high enough
-  not_16 : (v : Verdict) → checked_to7 el ≡ v → refuse_if v (derivative_beyond el.mean_motion el.half_mean_motion_derivative) MeanMotionDerivative ≡ v
+  not_16 : (v : Result Unit Refusal) → checked_to7 el ≡ v → refuse_if v (derivative_beyond el.mean_motion el.half_mean_motion_derivative) MeanMotionDerivative ≡ v
   unfolding refuse_if
-  not_16 (Refused r) e = refl
-  not_16 Passed e = let least = least_motion_lem el e in rw (none, le-ltb el.mean_motion 20_000_000 least)
+  not_16 (Err r) e = refl
+  not_16 (Ok tt) e = let least = least_motion_lem el e in rw (none, le-ltb el.mean_motion 20_000_000 least)
 
   elements : checked el ≡ constant_checked el
   unfolding checked constant_checked

@@ -16,10 +16,7 @@ use Rattle.kepler.proofs.Bracket.{always_bracketed}
 use Rattle.position.specs.declared.Position.{Position}
 use Rattle.position.proofs.Bounds.{celestial_box}
 use Rattle.orbit.specs.declared.State.{State}
-use Rattle.orbit.specs.declared.Placement.TheVariants.{Placed, Refused}
 use Rattle.elements.specs.declared.Elements.{Elements}
-use Rattle.elements.specs.declared.Verdict.{Verdict}
-use Rattle.elements.specs.declared.Verdict.TheVariants as verdict
 use Rattle.orbit.specs.Contract.{StateOwes, StateAt}
 use Rattle.orbit.specs.Ellipse.{radius}
 use Rattle.orbit.specs.Placement.{in_plane, celestial_at, node_at, anomaly_of, state_of, placement_of, placement}
@@ -29,6 +26,7 @@ use Rattle.orbit.specs.Turns.{advance, mean_anomaly}
 use Rattle.elements.proofs.Accepted.{AcceptedAt, accepted_at}
 use Rattle.orbit.proofs.Distances.{minor_le, plane_box, radius_between}
 use Rattle.orbit.proofs.Revolution.{never_falls}
+use Rattle.std.specs.Prelude.{Err, Ok, Result}
 
 module _ (el : Elements) (t : ℤ) where
   -- a state by its fields
@@ -44,11 +42,11 @@ module _ (el : Elements) (t : ℤ) where
   unfolding anomaly_of
   anomaly_is r h = λ i. record { angle = h.angle_is i; halvings = h.halvings_is i }
 
-  pub placement_refused : (r : Refusal) → checked_at el t ≡ verdict.Refused r → Refused r ≡ placement el t
+  pub placement_refused : (r : Refusal) → checked_at el t ≡ Err r → Err r ≡ placement el t
   unfolding placement placement_of
   placement_refused r e = rw e
 
-  pub placement_placed : checked_at el t ≡ verdict.Passed → Placed (state_of el t) ≡ placement el t
+  pub placement_placed : checked_at el t ≡ Ok tt → Ok (state_of el t) ≡ placement el t
   unfolding placement placement_of
   placement_placed e = rw e
 
@@ -69,29 +67,29 @@ module _ (el : Elements) (t : ℤ) where
         box = celestial_box _ _ _ (plane_box _ _ _ _ _ a.elements.axis_le e (minor_le _) (C-within _) (S-within _));
       }
 
-  pub state_at : {s : State} → checked_at el t ≡ verdict.Passed → s ≡ state_of el t → StateAt el t s
+  pub state_at : {s : State} → checked_at el t ≡ Ok tt → s ≡ state_of el t → StateAt el t s
   state_at passed is =
       record { is = is; owes = subst (StateOwes el t) (sym is) (state_owes (accepted_at el t passed)) }
 
-  pub placed_passed : {s : State} → placement el t ≡ Placed s → checked_at el t ≡ verdict.Passed
+  pub placed_passed : {s : State} → placement el t ≡ Ok s → checked_at el t ≡ Ok tt
   placed_passed given = by (checked_at el t) refl
     where
-      by : (v : Verdict) → checked_at el t ≡ v → checked_at el t ≡ verdict.Passed
-      by verdict.Passed e = e
-      by (verdict.Refused r) e =
+      by : (v : Result Unit Refusal) → checked_at el t ≡ v → checked_at el t ≡ Ok tt
+      by (Ok tt) e = e
+      by (Err r) e =
           let p = placement_refused r e ∙ given in
           let z : ◌≡◌ {A = ℕ} 0 1 = cc in absurd (omega arith)
 
   -- a state that was given is that of the time
-  placed_is : {s : State} → placement el t ≡ Placed s → s ≡ state_of el t
+  placed_is : {s : State} → placement el t ≡ Ok s → s ≡ state_of el t
   placed_is given = let q = placement_placed (placed_passed given) ∙ given in cc
 
   -- a state that was given: what it is, k(E) ≤ M < k(E + 1), demand 3, the radius between perigee and apogee, and the bounds of the position
-  pub placed_state : (s : State) → placement el t ≡ Placed s → StateAt el t s
+  pub placed_state : (s : State) → placement el t ≡ Ok s → StateAt el t s
   placed_state s given = state_at (placed_passed given) (placed_is given)
 
 -- of two states that were given for the same elements, the later has no lower revolution
-pub later_placed : (el : Elements) (t t' : ℤ) {s s' : State} → placement el t ≡ Placed s → placement el t' ≡ Placed s' → t ≤ℤ t' → s.revolution ≤ℤ s'.revolution
+pub later_placed : (el : Elements) (t t' : ℤ) {s s' : State} → placement el t ≡ Ok s → placement el t' ≡ Ok s' → t ≤ℤ t' → s.revolution ≤ℤ s'.revolution
 unfolding state_of
 later_placed el t t' given given' le =
     rw (placed_is el t given, placed_is el t' given')

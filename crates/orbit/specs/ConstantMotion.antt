@@ -1,15 +1,15 @@
 -- What the rules say of a constant mean motion, d = 0: every answer comes from w and the part turn alone. Assumes nothing.
-use Rattle.std.specs.Prelude.{◌≡◌, true, false, not, ℕ, ◌+◌, ◌-◌, ◌^◌, ◌<◌, leb, ℤ, pos, ◌+ℤ◌}
+use Rattle.std.specs.Prelude.{◌≡◌, true, false, not, ℕ, ◌+◌, ◌-◌, ◌^◌, ◌<◌, leb, ℤ, pos, ◌+ℤ◌, Result}
 use Rattle.refusal.specs.declared.Refusal.TheVariants.{Time}
 use Rattle.time.specs.Range.{in_range}
 use Rattle.orbit.specs.declared.State.{State}
 use Rattle.elements.specs.declared.Elements.{Elements}
-use Rattle.elements.specs.declared.Verdict.{Verdict}
 use Rattle.elements.specs.Elements.{refuse_if, checked_to7, checked}
 use Rattle.orbit.specs.Placement.{state_with, state_of, placement_of, placement}
 use Rattle.orbit.specs.Revolution.{latitude_of, node_passages, revolution}
 use Rattle.elements.specs.Time.{times_refused, time_refused}
 use Rattle.orbit.specs.Turns.{elapsed_of, part_turn, linear_term, drift, mean_anomaly}
+use Rattle.refusal.specs.declared.Refusal.{Refusal}
 
 -- M0 plus the part turn
 unfoldable pub anomaly_sum : Elements → ℤ → ℕ
@@ -25,11 +25,11 @@ constant_revolution el t =
     pos el.epoch_revolution +ℤ node_passages (latitude_of el) (linear_term el.mean_motion (elapsed_of el t) +ℤ drift el.perigee_rate (elapsed_of el t))
 
 -- 1 to 7, then 8 for the epoch
-unfoldable pub constant_checked : Elements → Verdict
+unfoldable pub constant_checked : Elements → Result Unit Refusal
 constant_checked el = refuse_if (checked_to7 el) (not (in_range el.epoch)) Time
 
 -- then 8 for the time, which may be 31,622,400 s away
-unfoldable pub constant_checked_at : Elements → ℤ → Verdict
+unfoldable pub constant_checked_at : Elements → ℤ → Result Unit Refusal
 constant_checked_at el t = refuse_if (constant_checked el) (times_refused el.epoch t) Time
 
 unfoldable pub constant_state : Elements → ℤ → State

@@ -1,5 +1,5 @@
 -- What the functions ask and owe. Assumes nothing.
-use Rattle.std.specs.Prelude.{◌≡◌, ℕ, ◌^◌, ◌≤◌, ℤ}
+use Rattle.std.specs.Prelude.{◌≡◌, ℕ, ◌^◌, ◌≤◌, ℤ, Err, Ok, Result}
 use Rattle.integer.specs.Bound.{Within}
 use Rattle.trig.specs.Contract.{SinesAt}
 use Rattle.kepler.specs.Bracket.{Bracketed}
@@ -8,16 +8,14 @@ use Rattle.position.specs.Box.{PlaneBox, CelestialBox}
 use Rattle.position.specs.declared.Position.{Position}
 use Rattle.orbit.specs.declared.Plane.{Plane}
 use Rattle.orbit.specs.declared.State.{State}
-use Rattle.orbit.specs.declared.Placement.{Placement}
-use Rattle.orbit.specs.declared.Placement.TheVariants.{Placed, Refused}
 use Rattle.elements.specs.declared.Elements.{Elements}
-use Rattle.elements.specs.declared.Verdict.TheVariants as verdict
 use Rattle.orbit.specs.declared.turns.Phase.{Phase}
 use Rattle.orbit.specs.Ellipse.{minor_axis, Between}
 use Rattle.orbit.specs.Placement.{plane_of, perigee_at, state_of, placement}
 use Rattle.orbit.specs.Revolution.{revolution}
 use Rattle.elements.specs.Time.{checked_at}
 use Rattle.orbit.specs.Turns.{elapsed_of, mean_anomaly}
+use Rattle.refusal.specs.declared.Refusal.{Refusal}
 
 -- ---- turns
 pub record Elapsed (el : Elements) (t r : ℤ) : Type 0 where
@@ -59,10 +57,10 @@ pub record StateAt (el : Elements) (t : ℤ) (s : State) : Type 0 where
   pub owes : StateOwes el t s
 
 -- by the cases of the answer: a state is given whole, and the checks give every refusal
-abbrev pub PlacementOwes : Elements → ℤ → Placement → Type 0
-PlacementOwes el t (Placed s) = StateOwes el t s
-PlacementOwes el t (Refused refusal) = checked_at el t ≡ verdict.Refused refusal
+abbrev pub PlacementOwes : Elements → ℤ → Result State Refusal → Type 0
+PlacementOwes el t (Ok s) = StateOwes el t s
+PlacementOwes el t (Err refusal) = checked_at el t ≡ Err refusal
 
-pub record PlacedAt (el : Elements) (t : ℤ) (r : Placement) : Type 0 where
+pub record PlacedAt (el : Elements) (t : ℤ) (r : Result State Refusal) : Type 0 where
   pub is : r ≡ placement el t
   pub owes : PlacementOwes el t r

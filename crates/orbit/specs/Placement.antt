@@ -1,20 +1,17 @@
 -- The position of a satellite: document 01, "From elements to position". Assumes nothing.
-use Rattle.std.specs.Prelude.{ℕ, ℤ, pos}
+use Rattle.std.specs.Prelude.{ℕ, ℤ, pos, Err, Ok, Result}
 use Rattle.trig.specs.Sine.{S, C}
 use Rattle.kepler.specs.Kepler.{anomaly, halvings}
 use Rattle.kepler.specs.declared.Anomaly.{Anomaly}
 use Rattle.position.specs.Turn.{celestial_of}
 use Rattle.position.specs.declared.Position.{Position}
 use Rattle.orbit.specs.declared.State.{State}
-use Rattle.orbit.specs.declared.Placement.{Placement}
-use Rattle.orbit.specs.declared.Placement.TheVariants.{Placed, Refused}
 use Rattle.elements.specs.declared.Elements.{Elements}
-use Rattle.elements.specs.declared.Verdict.{Verdict}
-use Rattle.elements.specs.declared.Verdict.TheVariants as verdict
 use Rattle.orbit.specs.Ellipse.{minor_axis, in_plane_x, in_plane_y, radius}
 use Rattle.orbit.specs.Revolution.{revolution}
 use Rattle.elements.specs.Time.{checked_at}
 use Rattle.orbit.specs.Turns.{elapsed_of, mean_anomaly, drifted}
+use Rattle.refusal.specs.declared.Refusal.{Refusal}
 
 -- (X, Y, 0) from a, e, b, C(E) and S(E)
 unfoldable pub plane_of : ℕ → ℕ → ℕ → ℤ → ℤ → Position
@@ -55,10 +52,10 @@ unfoldable pub state_of : Elements → ℤ → State
 state_of el t = state_with el t (revolution el t) (mean_anomaly el t)
 
 -- a refusal, or the state where there is none
-unfoldable pub placement_of : Verdict → State → Placement
-placement_of (verdict.Refused refusal) s = Refused refusal
-placement_of verdict.Passed s = Placed s
+unfoldable pub placement_of : Result Unit Refusal → State → Result State Refusal
+placement_of (Err refusal) s = Err refusal
+placement_of (Ok tt) s = Ok s
 
 -- position: the elements, then 8
-unfoldable pub placement : Elements → ℤ → Placement
+unfoldable pub placement : Elements → ℤ → Result State Refusal
 placement el t = placement_of (checked_at el t) (state_of el t)

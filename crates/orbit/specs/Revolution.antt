@@ -1,9 +1,8 @@
 -- The number of the revolution, counted from the mean ascending node, and that it never falls: document 01, "From elements to position".
 -- Assumes nothing.
-use Rattle.std.specs.Prelude.{◌≡◌, ℕ, ◌+◌, ◌/◌, ◌^◌, ℤ, pos, ◌+ℤ◌, ◌-ℤ◌, ◌≤ℤ◌}
+use Rattle.std.specs.Prelude.{◌≡◌, ℕ, ◌+◌, ◌/◌, ◌^◌, ℤ, pos, ◌+ℤ◌, ◌-ℤ◌, ◌≤ℤ◌, Ok}
 use Rattle.integer.specs.Division.{floor_z}
 use Rattle.elements.specs.declared.Elements.{Elements}
-use Rattle.elements.specs.declared.Verdict.TheVariants.{Passed}
 use Rattle.elements.specs.Time.{checked_at}
 use Rattle.orbit.specs.Turns.{elapsed_of, advance, drift}
 
@@ -26,4 +25,4 @@ revolution el t = pos el.epoch_revolution +ℤ node_passages (latitude_of el) (g
 -- the number never falls (theorem `never_falls`): of two times that are accepted with the same elements, the later has no lower one
 abbrev pub NeverFalls : Type 0
 NeverFalls =
-    (el : Elements) (t t' : ℤ) → checked_at el t ≡ Passed → checked_at el t' ≡ Passed → t ≤ℤ t' → revolution el t ≤ℤ revolution el t'
+    (el : Elements) (t t' : ℤ) → checked_at el t ≡ Ok tt → checked_at el t' ≡ Ok tt → t ≤ℤ t' → revolution el t ≤ℤ revolution el t'

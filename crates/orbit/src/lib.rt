@@ -6,12 +6,11 @@ mod turns;
 
 ghost use Rattle.std.specs.Prelude.{◌≡◌, ◌≤◌};
 ghost use Rattle.trig.specs.Contract.{SinesAt};
-ghost use Rattle.elements.specs.declared.Verdict.TheVariants.{Passed};
 ghost use Rattle.orbit.specs.Placement.{node_at};
 ghost use Rattle.elements.specs.Time.{checked_at};
 ghost use Rattle.orbit.specs.Contract.{PlaneFor, Shape, InPlane, StateAt, PlacedAt};
 
-use elements::{Elements, Verdict};
+use elements::Elements;
 use kepler::Anomaly;
 use position::Position;
 use refusal::Refusal;
@@ -27,12 +26,6 @@ pub struct State {
     pub position: Position,
     pub radius: i64,
     pub node: u32,
-}
-
-#[derive(Clone, Copy)]
-pub enum Placement {
-    Placed(State),
-    Refused(Refusal),
 }
 
 // What all times share of an orbit: the ratio of its axes, in units of 2^-30, and its inclination.
@@ -58,7 +51,7 @@ impl Plane {
 // The node as drifted at a time that passed the checks. Labelling needs its sines twice: for the
 // position and for the Sun's elevation.
 pub fn node_at(elements: Elements, time: i64) -> Sines
-    requires { checked_at elements time ≡ Passed }
+    requires { checked_at elements time ≡ Ok tt }
     ensures { SinesAt (node_at elements time) result }
 {
     turns::drift_at(elements, time, elements.node, elements.node_rate)
@@ -78,7 +71,7 @@ fn in_plane(a: u32, e: u32, minor_axis: u32, cosine: i64, sine: i64) -> Position
 // The state at a time that passed the checks: the plane is computed once for all times, and the node
 // once for the time.
 pub fn state_at(elements: Elements, plane: Plane, node: Sines, time: i64) -> State
-    requires { (checked_at elements time ≡ Passed) × PlaneFor elements plane × SinesAt (node_at elements time) node }
+    requires { (checked_at elements time ≡ Ok tt) × PlaneFor elements plane × SinesAt (node_at elements time) node }
     ensures { StateAt elements time result }
 {
     let a = elements.semi_major_axis;
@@ -100,16 +93,11 @@ pub fn state_at(elements: Elements, plane: Plane, node: Sines, time: i64) -> Sta
 }
 
 // The position of a satellite with any elements at any time, or the refusal.
-pub fn position(elements: Elements, time: i64) -> Placement
+pub fn position(elements: Elements, time: i64) -> Result<State, Refusal>
     ensures { PlacedAt elements time result }
 {
-    let verdict = elements::check_at(elements, time);
-    match verdict {
-        Verdict::Refused(refusal) => Placement::Refused(refusal),
-        Verdict::Passed => {
-            let plane = Plane::of(elements);
-            let node = node_at(elements, time);
-            Placement::Placed(state_at(elements, plane, node, time))
-        }
-    }
+    elements::check_at(elements, time)?;
+    let plane = Plane::of(elements);
+    let node = node_at(elements, time);
+    Ok(state_at(elements, plane, node, time))
 }

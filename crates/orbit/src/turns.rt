@@ -8,7 +8,6 @@ ghost use Rattle.integer.specs.Bound.{Within};
 ghost use Rattle.integer.specs.Contract.{FloorDivided};
 ghost use Rattle.integer.specs.Division.{mod_z};
 ghost use Rattle.trig.specs.Contract.{SinesAt};
-ghost use Rattle.elements.specs.declared.Verdict.TheVariants.{Passed};
 ghost use Rattle.elements.specs.Time.{checked_at};
 ghost use Rattle.orbit.specs.Turns.{elapsed_of, linear_term, quadratic_term, drift, drifted};
 ghost use Rattle.orbit.specs.Revolution.{node_passages};
@@ -29,7 +28,7 @@ pub struct Phase {
 }
 
 fn elapsed(elements: Elements, time: i64) -> i64
-    requires { checked_at elements time ≡ Passed }
+    requires { checked_at elements time ≡ Ok tt }
     ensures { Elapsed elements time result }
 {
     time - elements.epoch
@@ -89,7 +88,7 @@ fn revolution(first: u32, mean_anomaly: u32, argument_of_perigee: u32, gained: i
 }
 
 pub(crate) fn phase_at(elements: Elements, time: i64) -> Phase
-    requires { checked_at elements time ≡ Passed }
+    requires { checked_at elements time ≡ Ok tt }
     ensures { PhaseAt elements time result }
 {
     let elapsed = elapsed(elements, time);
@@ -109,7 +108,7 @@ pub(crate) fn phase_at(elements: Elements, time: i64) -> Phase
 
 // The drifted angle at a time, with its sines.
 pub(crate) fn drift_at(elements: Elements, time: i64, angle: u32, rate: i32) -> Sines
-    requires { (checked_at elements time ≡ Passed) × Within 200_000 rate }
+    requires { (checked_at elements time ≡ Ok tt) × Within 200_000 rate }
     ensures { SinesAt (drifted angle rate (elapsed_of elements time)) result }
 {
     Sines::of(wrapped(angle, drift(rate, elapsed(elements, time))))

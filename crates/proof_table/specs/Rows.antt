@@ -1,15 +1,14 @@
 -- The rows marked P: document 01, "Proof table (marked P) and other checks". Assumes nothing.
-use Rattle.std.specs.Prelude.{List, [], ◌∷◌, ◌-◌, ◌^◌, ℤ, pos, neg_ℤ}
+use Rattle.std.specs.Prelude.{List, [], ◌∷◌, ◌-◌, ◌^◌, ℤ, pos, neg_ℤ, Err, Ok, Result}
 use Rattle.refusal.specs.Numbers.{number_of}
 use Rattle.trig.specs.Sine.{S}
 use Rattle.kepler.specs.Solution.{solution}
-use Rattle.kepler.specs.declared.Solution.{Solution}
-use Rattle.kepler.specs.declared.Solution.TheVariants as solved
 use Rattle.shade.specs.Codes.{shade_code}
 use Rattle.eclipse.specs.Shade.{shade_answer}
-use Rattle.eclipse.specs.declared.ShadeAnswer.{ShadeAnswer}
-use Rattle.eclipse.specs.declared.ShadeAnswer.TheVariants as shaded
 use Rattle.label.specs.Sides.{side_of}
+use Rattle.kepler.specs.declared.Anomaly.{Anomaly}
+use Rattle.refusal.specs.declared.Refusal.{Refusal}
+use Rattle.shade.specs.declared.Shade.{Shade}
 
 -- what a definition gives, beside what the paper says it is
 pub record Row : Type 0 where
@@ -21,14 +20,14 @@ abbrev pub ◌is◌ : ℤ → ℤ → Row
 a is b = record { given = a; said = b }
 
 -- E where the solver's answer is one, and the refusal's number below zero
-unfoldable pub anomaly_or : Solution → ℤ
-anomaly_or (solved.Solved r) = pos r.angle
-anomaly_or (solved.Refused r) = neg_ℤ (pos (number_of r))
+unfoldable pub anomaly_or : Result Anomaly Refusal → ℤ
+anomaly_or (Ok r) = pos r.angle
+anomaly_or (Err r) = neg_ℤ (pos (number_of r))
 
 -- the code of a shade, and the refusal's number below zero
-unfoldable pub shade_or : ShadeAnswer → ℤ
-shade_or (shaded.Shaded s) = pos (shade_code s)
-shade_or (shaded.Refused r) = neg_ℤ (pos (number_of r))
+unfoldable pub shade_or : Result Shade Refusal → ℤ
+shade_or (Ok s) = pos (shade_code s)
+shade_or (Err r) = neg_ℤ (pos (number_of r))
 
 -- the shade test of a position with z = 0 and the Sun along x
 unfoldable pub shade_along_x : ℤ → ℤ → ℤ

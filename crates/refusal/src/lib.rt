@@ -3,8 +3,9 @@
 
 ghost use Rattle.std.specs.Prelude.{◌≡◌};
 ghost use Rattle.refusal.specs.Numbers.{number_of};
+ghost use Rattle.refusal.specs.Refused.{refused_at};
 
-#[derive(Clone, Copy)]
+#[derive(Clone, Copy, Debug, PartialEq, Eq)]
 pub enum Refusal {
     Eccentricity,
     SemiMajorAxis,
@@ -61,5 +62,20 @@ impl Refusal {
             Refusal::NoSet => 23,
             Refusal::Day => 24,
         }
+    }
+}
+
+// A refusal with its place: a label, a record or a column, and 0 where the refusal has none.
+#[derive(Clone, Copy, Debug, PartialEq, Eq)]
+pub struct RefusedAt {
+    pub refusal: Refusal,
+    pub place: u32,
+}
+
+impl From<Refusal> for RefusedAt {
+    ghost from_gives = { λ refusal refused. refused ≡ refused_at refusal 0 };
+
+    fn from(refusal: Refusal) -> RefusedAt {
+        RefusedAt { refusal, place: 0 }
     }
 }

@@ -12,23 +12,22 @@ use Rattle.refusal.specs.declared.Refusal.{Refusal}
 use Rattle.refusal.specs.declared.Refusal.TheVariants.{OutputLength}
 use Rattle.label.specs.Layout.{label_size}
 use Rattle.sequence.specs.Sequence.{leading}
-use Rattle.trailer.specs.Counts.{counts_of}
+use Rattle.trailer.specs.Counts.{counts_of, contents_of}
 use Rattle.trailer.specs.Trailer.{trailer_size, distance_back, trailer_bytes}
 use Rattle.label_file.specs.File.{part_at, output_refused}
 use Rattle.label_file.specs.Reading.{keeps_at, held_at, file_reading, buffer_reading}
 use Rattle.trailer.specs.declared.Counts.{Counts}
 use Rattle.trailer.specs.declared.Form.TheVariants.{Bytes24}
-use Rattle.label_file.specs.declared.FileReading.TheVariants.{Accepted}
 use Rattle.label_file.proofs.Accepted.{stored_counts}
 use Rattle.label_file.proofs.Readings.{read_within}
 use Rattle.label_file.proofs.RoundTrip.{part_start, closed_accepted, closed_label}
 use Rattle.sequence.proofs.Sequences.{leading_le, leading_holds}
 use Rattle.trailer.proofs.Tallies.{counts_same}
 use Rattle.trailer.proofs.Trailers.{trailer_length}
-use Rattle.salvage.specs.declared.Salvage.{Salvage}
-use Rattle.salvage.specs.declared.Salvage.TheVariants.{Kept, Refused}
-use Rattle.salvage.specs.Salvage.{whole_labels, kept_labels, kept_bytes, kept_counts, dropped_bytes, salvaged_file, salvaging, output_by, salvaged_output}
+use Rattle.salvage.specs.Salvage.{whole_labels, kept_labels, kept_bytes, kept_counts, dropped_bytes, salvaged_file, salvaging, output_by, salvaged_output, kept_of}
 use Rattle.salvage.specs.Contract.{Saves, Salvaged}
+use Rattle.salvage.specs.declared.Kept.{Kept}
+use Rattle.std.specs.Prelude.{Err, Ok, Result}
 
 -- the start of some bytes, copied over another start
 pub start_copied : (body output : List ℕ) (size : ℕ) {m : List ℕ} → m ≡ take (size - 0) (drop 0 body)
@@ -84,10 +83,10 @@ module _ (body : List ℕ) where
   unfolding keeps_at kept_labels
   bytes_keep k l = rw (kept_part k l) (leading_holds (keeps_at body) (whole_labels (length body)) k l)
 
-  file_accepted : (front : List ℕ) → file_reading (front ++ salvaged_file body) ≡ Accepted Bytes24 (kept_counts body)
+  file_accepted : (front : List ℕ) → file_reading (front ++ salvaged_file body) ≡ Ok (contents_of Bytes24 (kept_counts body))
   unfolding salvaged_file
   file_accepted front =
-      subst (λ (c : Counts). file_reading (front ++ (kept_bytes body ++ trailer_bytes Bytes24 c)) ≡ Accepted Bytes24 c) counts_are
+      subst (λ (c : Counts). file_reading (front ++ (kept_bytes body ++ trailer_bytes Bytes24 c)) ≡ Ok (contents_of Bytes24 c)) counts_are
       (closed_accepted Bytes24 (kept_bytes body) n kept_length kept_few bytes_keep front)
 
   saves : Saves body (salvaged_file body) (kept_labels body) (dropped_bytes body)
@@ -107,22 +106,22 @@ module _ (body : List ℕ) where
   -- ---- the answer and the output
 
   module _ (output : List ℕ) where
-    pub output_refused_lem : length output < distance_back Bytes24 (kept_labels body) → Salvaged body output output (Refused OutputLength)
+    pub output_refused_lem : length output < distance_back Bytes24 (kept_labels body) → Salvaged body output output (Err OutputLength)
     unfolding salvaged_output salvaging output_refused
     output_refused_lem h = record { answer_is = rw (lt-ltb _ _ h); output_is = rw (lt-ltb _ _ h); owes = tt }
 
-    pub refused_stays : (refusal : Refusal) → salvaging body (length output) ≡ Refused refusal → salvaged_output body output ≡ output
+    pub refused_stays : (refusal : Refusal) → salvaging body (length output) ≡ Err refusal → salvaged_output body output ≡ output
     unfolding salvaged_output
-    refused_stays refusal e = ap (λ (r : Salvage). output_by r (salvaged_file body) output) e
+    refused_stays refusal e = ap (λ (r : Result Kept Refusal). output_by r (salvaged_file body) output) e
 
     module _ (enough : distance_back Bytes24 (kept_labels body) ≤ length output) where
-      pub answer_is : salvaging body (length output) ≡ Kept (kept_labels body) (dropped_bytes body)
+      pub answer_is : salvaging body (length output) ≡ Ok (kept_of (kept_labels body) (dropped_bytes body))
       unfolding salvaging output_refused
       answer_is = rw (le-ltb _ _ enough)
 
       pub output_is : salvaged_output body output ≡ salvaged_file body ++ drop (distance_back Bytes24 (kept_labels body)) output
       unfolding salvaged_output
-      output_is = ap (λ (r : Salvage). output_by r (salvaged_file body) output) answer_is
+      output_is = ap (λ (r : Result Kept Refusal). output_by r (salvaged_file body) output) answer_is
 
       file_is : take (distance_back Bytes24 (kept_labels body)) (salvaged_output body output) ≡ salvaged_file body
       file_is = ap (take (distance_back Bytes24 n)) output_is ∙ take_at (salvaged_file body) (drop (distance_back Bytes24 n) output) (distance_back Bytes24 n) file_length
@@ -143,18 +142,18 @@ module _ (body : List ℕ) where
       pub salvaged : {m p : List ℕ} {counts : Counts} → counts ≡ kept_counts body
           → m ≡ take (label_size * counts.labels) body ++ drop (label_size * counts.labels) output
           → p ≡ sets m (label_size * counts.labels) (trailer_bytes Bytes24 counts)
-          → Salvaged body output p (Kept counts.labels (length body - label_size * counts.labels))
+          → Salvaged body output p (Ok (kept_of counts.labels (length body - label_size * counts.labels)))
       unfolding kept_counts kept_bytes dropped_bytes counts_of
       salvaged {m} {p} c e f =
           let copied = e ∙ ap (λ (x : Counts). take (label_size * x.labels) body ++ drop (label_size * x.labels) output) c in
           let o = f ∙ (λ i. sets (copied i) (label_size * (c i).labels) (trailer_bytes Bytes24 (c i))) ∙ stored in
-          subst (Salvaged body output p) (ap (λ (x : Counts). Kept x.labels (length body - label_size * x.labels)) (sym c))
+          subst (Salvaged body output p) (ap (λ (x : Counts). Ok (kept_of x.labels (length body - label_size * x.labels))) (sym c))
           (record { answer_is = sym answer_is; output_is = o; owes = rw (ap (take (distance_back Bytes24 n)) o ∙ file_is) saves })
 
     -- what an answer that keeps labels says: few, and with the bytes dropped all that was given; and the file in the output is accepted with their counts
     abbrev Says : ℕ → ℕ → Type 0
     Says labels dropped =
-        (labels ≤ 1_024) × (label_size * labels + dropped ≡ length body) × (buffer_reading (salvaged_output body output) (distance_back Bytes24 labels) ≡ Accepted Bytes24 (counts_of (held_at body) labels))
+        (labels ≤ 1_024) × (label_size * labels + dropped ≡ length body) × (buffer_reading (salvaged_output body output) (distance_back Bytes24 labels) ≡ Ok (contents_of Bytes24 (counts_of (held_at body) labels)))
 
     says : distance_back Bytes24 (kept_labels body) ≤ length output → Says (kept_labels body) (dropped_bytes body)
     unfolding kept_counts
@@ -164,7 +163,7 @@ module _ (body : List ℕ) where
         (kept_few, each_byte, read_within (salvaged_output body output) _ within ∙ ap file_reading (file_is enough) ∙ file_accepted [])
 
     by_room : (labels dropped : ℕ) (t : Bool) → output_refused (kept_labels body) (length output) ≡ t
-        → cond t (Refused OutputLength) (Kept (kept_labels body) (dropped_bytes body)) ≡ Kept labels dropped → Says labels dropped
+        → cond t (Err OutputLength) (Ok (kept_of (kept_labels body) (dropped_bytes body))) ≡ Ok (kept_of labels dropped) → Says labels dropped
     unfolding output_refused
     by_room labels dropped true e a = let z : ◌≡◌ {A = ℕ} 0 1 = cc in absurd (omega arith)
     by_room labels dropped false e a =
@@ -172,6 +171,6 @@ module _ (body : List ℕ) where
         let d : dropped_bytes body ≡ dropped = cc in
         subst (λ (x : ℕ). Says x dropped) k (subst (Says (kept_labels body)) d (says (ltb-false _ _ e)))
 
-    pub kept_says : (labels dropped : ℕ) → salvaging body (length output) ≡ Kept labels dropped → Says labels dropped
+    pub kept_says : (labels dropped : ℕ) → salvaging body (length output) ≡ Ok (kept_of labels dropped) → Says labels dropped
     unfolding salvaging
     kept_says labels dropped a = by_room labels dropped (output_refused (kept_labels body) (length output)) refl a

@@ -1,5 +1,5 @@
 -- Salvage, of bytes from the first label of a file on: document 01, "Telemetry and labels", and refusal 11. Assumes nothing.
-use Rattle.std.specs.Prelude.{cond, ℕ, ◌*◌, ◌-◌, ◌/◌, min, List, ◌++◌, length, take, drop}
+use Rattle.std.specs.Prelude.{cond, ℕ, ◌*◌, ◌-◌, ◌/◌, min, List, ◌++◌, length, take, drop, Err, Ok, Result}
 use Rattle.refusal.specs.declared.Refusal.TheVariants.{OutputLength}
 use Rattle.label.specs.Layout.{label_size}
 use Rattle.sequence.specs.Sequence.{leading}
@@ -9,8 +9,11 @@ use Rattle.label_file.specs.File.{output_refused}
 use Rattle.label_file.specs.Reading.{keeps_at, held_at}
 use Rattle.trailer.specs.declared.Counts.{Counts}
 use Rattle.trailer.specs.declared.Form.TheVariants.{Bytes24}
-use Rattle.salvage.specs.declared.Salvage.{Salvage}
-use Rattle.salvage.specs.declared.Salvage.TheVariants.{Kept, Refused}
+use Rattle.refusal.specs.declared.Refusal.{Refusal}
+use Rattle.salvage.specs.declared.Kept.{Kept}
+
+abbrev pub kept_of : ℕ → ℕ → Kept
+kept_of labels dropped = record { labels = labels; dropped = dropped }
 
 -- how many whole 24 bytes are looked at, of so many bytes: up to the end, or 1,024
 abbrev pub whole_labels : ℕ → ℕ
@@ -37,12 +40,12 @@ unfoldable pub salvaged_file : List ℕ → List ℕ
 salvaged_file body = kept_bytes body ++ trailer_bytes Bytes24 (kept_counts body)
 
 -- what salvage answers: 11, where each label kept counts as a record, or the labels kept and the bytes dropped
-unfoldable pub salvaging : List ℕ → ℕ → Salvage
-salvaging body room = cond (output_refused (kept_labels body) room) (Refused OutputLength) (Kept (kept_labels body) (dropped_bytes body))
+unfoldable pub salvaging : List ℕ → ℕ → Result Kept Refusal
+salvaging body room = cond (output_refused (kept_labels body) room) (Err OutputLength) (Ok (kept_of (kept_labels body) (dropped_bytes body)))
 
-abbrev pub output_by : Salvage → List ℕ → List ℕ → List ℕ
-output_by (Kept labels dropped) file output = file ++ drop (distance_back Bytes24 labels) output
-output_by (Refused refusal) file output = output
+abbrev pub output_by : Result Kept Refusal → List ℕ → List ℕ → List ℕ
+output_by (Ok kept') file output = file ++ drop (distance_back Bytes24 kept'.labels) output
+output_by (Err refusal) file output = output
 
 -- the output afterwards: the file, and past its trailer what stood there; after a refusal, what stood there
 unfoldable pub salvaged_output : List ℕ → List ℕ → List ℕ

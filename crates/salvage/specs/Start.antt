@@ -1,18 +1,18 @@
 -- The start of some bytes decides what salvage keeps of them: whoever has more need hand over no more. Assumes nothing.
-use Rattle.std.specs.Prelude.{◌≡◌, ℕ, ◌+◌, ◌*◌, List, length, take, drop}
+use Rattle.std.specs.Prelude.{◌≡◌, ℕ, ◌+◌, ◌*◌, List, length, take, drop, Err, Ok, Result}
 use Rattle.label.specs.Layout.{label_size}
-use Rattle.salvage.specs.declared.Salvage.{Salvage}
-use Rattle.salvage.specs.declared.Salvage.TheVariants.{Kept, Refused}
-use Rattle.salvage.specs.Salvage.{salvaging, salvaged_output}
+use Rattle.salvage.specs.Salvage.{salvaging, salvaged_output, kept_of}
+use Rattle.refusal.specs.declared.Refusal.{Refusal}
+use Rattle.salvage.specs.declared.Kept.{Kept}
 
 -- the most bytes that can be kept, 24,576
 abbrev pub most_bytes : ℕ
 most_bytes = label_size * 1_024
 
 -- an answer, where so many bytes more are dropped
-abbrev pub dropping : ℕ → Salvage → Salvage
-dropping more (Kept labels dropped) = Kept labels (dropped + more)
-dropping more (Refused refusal) = Refused refusal
+abbrev pub dropping : ℕ → Result Kept Refusal → Result Kept Refusal
+dropping more (Ok kept') = Ok (kept_of kept'.labels (kept'.dropped + more))
+dropping more (Err refusal) = Err refusal
 
 -- the output is that of the start alone, and the bytes behind it are dropped
 pub record ByStart (body output : List ℕ) : Type 0 where

@@ -12,11 +12,11 @@ use trailer::Form;
 // The most labels of a file, and so the most that are kept.
 const MOST: u32 = trailer::MOST_LABELS;
 
-// What salvage gives: how many labels it kept and how many bytes it dropped, or a refusal.
-#[derive(Clone, Copy)]
-pub enum Salvage {
-    Kept(u32, usize),
-    Refused(Refusal),
+// How many labels salvage kept, and how many bytes it dropped.
+#[derive(Clone, Copy, Debug, PartialEq, Eq)]
+pub struct Kept {
+    pub labels: u32,
+    pub dropped: usize,
 }
 
 // The whole labels that so many bytes have room for, 1,024 at most.
@@ -33,17 +33,20 @@ fn whole_labels(size: usize) -> u32
 
 // Keeps the labels at the start of some bytes, up to the first that breaks a field rule, and writes them
 // with a trailer from the start of the output on. A refusal writes nothing.
-pub fn keep_labels(body: &[u8], output: &mut [u8]) -> Salvage
+pub fn keep_labels(body: &[u8], output: &mut [u8]) -> Result<Kept, Refusal>
     ensures { Salvaged body.now output.old output.new result }
 {
     let whole = whole_labels(body.len());
     let counts = label_file::count_labels(body, whole as usize);
     let kept = counts.labels;
     if output.len() < trailer::distance_back(Form::Bytes24, kept) {
-        return Salvage::Refused(Refusal::OutputLength);
+        return Err(Refusal::OutputLength);
     }
     let size = label::SIZE * (kept as usize);
     output[0..size].copy_from_slice(&body[0..size]);
     trailer::write_trailer(counts, output, size);
-    Salvage::Kept(kept, body.len() - size)
+    Ok(Kept {
+        labels: kept,
+        dropped: body.len() - size,
+    })
 }

@@ -1,11 +1,10 @@
 -- What the functions of the Sun owe. Assumes nothing.
-use Rattle.std.specs.Prelude.{◌≡◌, ℕ, ◌^◌, ℤ}
+use Rattle.std.specs.Prelude.{◌≡◌, ℕ, ◌^◌, ℤ, Err, Ok, Result}
 use Rattle.integer.specs.Bound.{Within}
 use Rattle.sun.specs.Sun.{centre_of, direction_of, sun_of, sun_answer}
 use Rattle.sun.specs.declared.Direction.{Direction}
 use Rattle.sun.specs.declared.Sun.{Sun}
-use Rattle.sun.specs.declared.SunAnswer.{SunAnswer}
-use Rattle.sun.specs.declared.SunAnswer.TheVariants.{Found, Refused}
+use Rattle.refusal.specs.declared.Refusal.{Refusal}
 
 pub record CentreAt (ma : ℕ) (r : ℤ) : Type 0 where
   pub is : r ≡ centre_of ma
@@ -25,10 +24,10 @@ pub record SunAt (t : ℤ) (r : Sun) : Type 0 where
   pub is : r ≡ sun_of t
   pub small : WithinOne r.direction
 
-abbrev pub DirectionWithinOne : SunAnswer → Type 0
-DirectionWithinOne (Found s) = WithinOne s.direction
-DirectionWithinOne (Refused r) = Unit {0}
+abbrev pub DirectionWithinOne : Result Sun Refusal → Type 0
+DirectionWithinOne (Ok s) = WithinOne s.direction
+DirectionWithinOne (Err r) = Unit {0}
 
-pub record SunAnswered (t : ℤ) (r : SunAnswer) : Type 0 where
+pub record SunAnswered (t : ℤ) (r : Result Sun Refusal) : Type 0 where
   pub is : r ≡ sun_answer t
   pub small : DirectionWithinOne r

@@ -1,5 +1,5 @@
 -- The Sun: document 01, "Sun and shade". Sums of angles wrap at a turn, 2^32. Assumes nothing.
-use Rattle.std.specs.Prelude.{ℕ, ◌+◌, ◌*◌, ◌/◌, ◌%◌, ◌^◌, cond, ℤ, pos, ◌+ℤ◌, ◌-ℤ◌, ◌*ℤ◌, int_div}
+use Rattle.std.specs.Prelude.{ℕ, ◌+◌, ◌*◌, ◌/◌, ◌%◌, ◌^◌, cond, ℤ, pos, ◌+ℤ◌, ◌-ℤ◌, ◌*ℤ◌, int_div, Err, Ok, Result}
 use Rattle.integer.specs.Division.{mod_z}
 use Rattle.refusal.specs.declared.Refusal.TheVariants.{Time}
 use Rattle.time.specs.Range.{in_range}
@@ -7,8 +7,7 @@ use Rattle.trig.specs.Angle.{angle_of}
 use Rattle.trig.specs.Sine.{S, C}
 use Rattle.sun.specs.declared.Direction.{Direction}
 use Rattle.sun.specs.declared.Sun.{Sun}
-use Rattle.sun.specs.declared.SunAnswer.{SunAnswer}
-use Rattle.sun.specs.declared.SunAnswer.TheVariants.{Found, Refused}
+use Rattle.refusal.specs.declared.Refusal.{Refusal}
 
 -- the part turn of n / d: the remainder, which is never negative, times 2^32 over the divisor, down
 unfoldable pub part_turn : ℤ → ℕ → ℕ
@@ -58,5 +57,5 @@ sun_of t =
     }
 
 -- the Sun alone gives 8, for its time's range
-unfoldable pub sun_answer : ℤ → SunAnswer
-sun_answer t = cond (in_range t) (Found (sun_of t)) (Refused Time)
+unfoldable pub sun_answer : ℤ → Result Sun Refusal
+sun_answer t = cond (in_range t) (Ok (sun_of t)) (Err Time)

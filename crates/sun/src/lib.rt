@@ -54,12 +54,6 @@ pub struct Sun {
     pub direction: Direction,
 }
 
-#[derive(Clone, Copy)]
-pub enum SunAnswer {
-    Found(Sun),
-    Refused(Refusal),
-}
-
 // A sum of angles, wrapped.
 fn wrapped(angle: i64) -> u32
     ensures { result ≡ mod_z angle (2 ^ 32) }
@@ -142,12 +136,12 @@ pub fn sun_at(time: i64) -> Sun
 }
 
 // The Sun at any time, or refusal 8.
-pub fn find(time: i64) -> SunAnswer
+pub fn find(time: i64) -> Result<Sun, Refusal>
     ensures { SunAnswered time result }
 {
     if time::in_range(time) {
-        SunAnswer::Found(sun_at(time))
+        Ok(sun_at(time))
     } else {
-        SunAnswer::Refused(Refusal::Time)
+        Err(Refusal::Time)
     }
 }

@@ -17,13 +17,13 @@ const SIZE_24: usize = 24;
 pub const LONGEST: usize = SIZE_24;
 
 // The trailer, by its bytes: the one of 24 has the dark counts.
-#[derive(Clone, Copy)]
+#[derive(Clone, Copy, Debug, PartialEq, Eq)]
 pub enum Form {
     Bytes16,
     Bytes24,
 }
 
-#[derive(Clone, Copy)]
+#[derive(Clone, Copy, Debug, PartialEq, Eq)]
 pub struct Counts {
     pub labels: u32,
     pub training: u32,
@@ -32,10 +32,11 @@ pub struct Counts {
     pub dark_test: u32,
 }
 
-#[derive(Clone, Copy)]
-pub enum TrailerReading {
-    Allowed(Form, Counts),
-    Refused,
+// What a label file holds: the form of its trailer, and the counts of its labels.
+#[derive(Clone, Copy, Debug, PartialEq, Eq)]
+pub struct Contents {
+    pub form: Form,
+    pub counts: Counts,
 }
 
 impl Form {
@@ -136,26 +137,29 @@ fn find_distance(last: &[u8]) -> u32
     endian::read_u32(&last[at..], 0)
 }
 
-// The trailer at the end of some last bytes of a file of `size` bytes.
-pub fn find(last: &[u8], size: u64) -> TrailerReading
+// What the trailer at the end of some last bytes of a file of `size` bytes states.
+pub fn find(last: &[u8], size: u64) -> Option<Contents>
     ensures { result ≡ trailer_at last.now size }
 {
     let given = last.len();
     if given < SIZE_16 {
-        return TrailerReading::Refused;
+        return None;
     }
     let distance = find_distance(last);
     let form = form_of(distance);
     let own = form.size();
     if given < own {
-        return TrailerReading::Refused;
+        return None;
     }
     let at = given - own;
     let stated = read_counts(form, &last[at..]);
     if allowed(form, stated, distance, size) {
-        TrailerReading::Allowed(form, stated)
+        Some(Contents {
+            form,
+            counts: stated,
+        })
     } else {
-        TrailerReading::Refused
+        None
     }
 }
 

@@ -11,29 +11,29 @@ use lib.IntN.{ℤ}
 use Rattle.refusal.specs.declared.Refusal.TheVariants as refusal
 use Rattle.elements.specs.Elements.{refuse_if, checked_to4, checked}
 use Rattle.elements.specs.declared.Elements.{Elements}
-use Rattle.elements.specs.declared.Verdict.{Verdict}
-use Rattle.elements.specs.declared.Verdict.TheVariants as verdict
 use Rattle.elements.proofs.Fast.{too_fast}
-use Rattle.two_line.specs.declared.TwoLineReading.{TwoLineReading}
-use Rattle.two_line.specs.declared.TwoLineReading.TheVariants.{Refused}
 use Rattle.two_line_fields.specs.Fields.{value_of, first_bad}
 use Rattle.two_line_fields.specs.Layout.{satellite_number, mean_motion}
 use Rattle.two_line.specs.Lines.{begins, checksum_holds}
 use Rattle.two_line.specs.Reading.{taken_with, taken, judged, two_line_reading}
+use Rattle.refusal.specs.Refused.{refused_at}
+use Rattle.refusal.specs.declared.Refusal.{Refusal}
+use Rattle.refusal.specs.declared.RefusedAt.{RefusedAt}
+use Rattle.std.specs.Prelude.{Err, Ok, Result}
 
 module _ (first second : List ℕ) (axis : ℕ) (node_rate perigee_rate : ℤ) where
-  abbrev answer : TwoLineReading
+  abbrev answer : Result Elements RefusedAt
   answer = two_line_reading first second axis node_rate perigee_rate
 
   -- ---- the mean motion, as far as 32 bits hold it
 
-  abbrev answered : ℕ → TwoLineReading
+  abbrev answered : ℕ → Result Elements RefusedAt
   answered n = let el = taken_with n first second axis node_rate perigee_rate in judged (checked el) el
 
-  refused_alike : (v : Verdict) (el el' : Elements) → judged (refuse_if v true refusal.MeanMotion) el ≡ judged (refuse_if v true refusal.MeanMotion) el'
+  refused_alike : (v : Result Unit Refusal) (el el' : Elements) → judged (refuse_if v true refusal.MeanMotion) el ≡ judged (refuse_if v true refusal.MeanMotion) el'
   unfolding refuse_if
-  refused_alike verdict.Passed el el' = refl
-  refused_alike (verdict.Refused r) el el' = refl
+  refused_alike (Ok tt) el el' = refl
+  refused_alike (Err r) el el' = refl
 
   both_too_fast : (n m : ℕ) → 1_700_000_000 < n → 1_700_000_000 < m → answered n ≡ answered m
   unfolding taken_with
@@ -53,22 +53,22 @@ module _ (first second : List ℕ) (axis : ℕ) (node_rate perigee_rate : ℤ) w
 
   -- ---- each refusal, where those before it are not given
 
-  pub lines_refused : (begins 49 first && begins 50 second) ≡ false → Refused refusal.Lines 0 ≡ answer
+  pub lines_refused : (begins 49 first && begins 50 second) ≡ false → Err (refused_at refusal.Lines 0) ≡ answer
   unfolding two_line_reading
   lines_refused b = rw b
 
   module _ (b : (begins 49 first && begins 50 second) ≡ true) where
-    pub checksum_refused : (checksum_holds first && checksum_holds second) ≡ false → Refused refusal.Checksum 0 ≡ answer
+    pub checksum_refused : (checksum_holds first && checksum_holds second) ≡ false → Err (refused_at refusal.Checksum 0) ≡ answer
     unfolding two_line_reading
     checksum_refused s = rw (b, s)
 
     module _ (s : (checksum_holds first && checksum_holds second) ≡ true) where
-      pub field_refused : eqb (first_bad first second) 0 ≡ false → Refused refusal.Field (first_bad first second) ≡ answer
+      pub field_refused : eqb (first_bad first second) 0 ≡ false → Err (refused_at refusal.Field (first_bad first second)) ≡ answer
       unfolding two_line_reading
       field_refused f = rw (b, s, f)
 
       module _ (f : eqb (first_bad first second) 0 ≡ true) where
-        pub numbers_refused : eqb (value_of first satellite_number) (value_of second satellite_number) ≡ false → Refused refusal.SatelliteNumbers 0 ≡ answer
+        pub numbers_refused : eqb (value_of first satellite_number) (value_of second satellite_number) ≡ false → Err (refused_at refusal.SatelliteNumbers 0) ≡ answer
         unfolding two_line_reading
         numbers_refused n = rw (b, s, f, n)
 

@@ -14,33 +14,32 @@ use Rattle.integer.proofs.Bounds.{within_pos, within_sub, within_more}
 use Rattle.trig.proofs.Angles.{angle_below}
 use Rattle.elements.specs.Elements.{checked}
 use Rattle.elements.specs.declared.Elements.{Elements}
-use Rattle.elements.specs.declared.Verdict.{Verdict}
-use Rattle.elements.specs.declared.Verdict.TheVariants as verdict
 use Rattle.two_line_fields.specs.Fields.{value_of, first_bad}
 use Rattle.two_line_fields.specs.Layout.{satellite_number}
-use Rattle.two_line.specs.declared.TwoLineReading.{TwoLineReading}
-use Rattle.two_line.specs.declared.TwoLineReading.TheVariants.{Taken, Refused}
 use Rattle.two_line.specs.Lines.{begins, checksum_holds}
 use Rattle.two_line.specs.Reading.{seconds_of, epoch_of, moved_back, taken_with, taken, judged, two_line_reading}
 use Rattle.two_line.proofs.Epochs.{seconds_small}
+use Rattle.refusal.specs.Refused.{refused_at}
+use Rattle.refusal.specs.declared.RefusedAt.{RefusedAt}
+use Rattle.std.specs.Prelude.{Err, Ok, Result}
 
 -- ---- they pass the checks
 
 pub record Passed (set el : Elements) : Type 0 where
   pub is : el ≡ set
-  pub passes : checked el ≡ verdict.Passed
+  pub passes : checked el ≡ Ok tt
 
-elements_in : Elements → TwoLineReading → Elements
-elements_in none (Taken el) = el
-elements_in none (Refused refusal place) = none
+elements_in : Elements → Result Elements RefusedAt → Elements
+elements_in none (Ok el) = el
+elements_in none (Err refused) = none
 
-by_verdict : (v : Verdict) (set el : Elements) → checked set ≡ v → judged v set ≡ Taken el → Passed set el
+by_verdict : (v : Result Unit Refusal) (set el : Elements) → checked set ≡ v → judged v set ≡ Ok el → Passed set el
 unfolding elements_in
-by_verdict verdict.Passed set el c e = let is : set ≡ el = ap (elements_in set) e in record { is = sym is; passes = rw is at c }
-by_verdict (verdict.Refused r) set el c e = let z : ◌≡◌ {A = ℕ} 0 1 = cc in absurd (omega arith)
+by_verdict (Ok tt) set el c e = let is : set ≡ el = ap (elements_in set) e in record { is = sym is; passes = rw is at c }
+by_verdict (Err r) set el c e = let z : ◌≡◌ {A = ℕ} 0 1 = cc in absurd (omega arith)
 
 -- no refusal was given ahead of them
-by_test : (t : Bool) (r : Refusal) (place : ℕ) (next : TwoLineReading) (el : Elements) → cond (not t) (Refused r place) next ≡ Taken el → next ≡ Taken el
+by_test : (t : Bool) (r : Refusal) (place : ℕ) (next : Result Elements RefusedAt) (el : Elements) → cond (not t) (Err (refused_at r place)) next ≡ Ok el → next ≡ Ok el
 by_test true r place next el e = e
 by_test false r place next el e = let z : ◌≡◌ {A = ℕ} 0 1 = cc in absurd (omega arith)
 
@@ -48,7 +47,7 @@ module _ (first second : List ℕ) (axis : ℕ) (node_rate perigee_rate : ℤ) (
   abbrev set : Elements
   set = taken first second axis node_rate perigee_rate
 
-  pub taken_passed : two_line_reading first second axis node_rate perigee_rate ≡ Taken el → Passed set el
+  pub taken_passed : two_line_reading first second axis node_rate perigee_rate ≡ Ok el → Passed set el
   unfolding two_line_reading
   taken_passed e =
       let e17 = by_test (begins 49 first && begins 50 second) refusal.Lines 0 _ el e in

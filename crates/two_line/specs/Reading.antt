@@ -1,18 +1,17 @@
 -- The elements that two lines give, with the semi-major axis and the drift rates beside them: document 01, "Two-line elements". Assumes nothing.
-use Rattle.std.specs.Prelude.{ℕ, ◌+◌, ◌*◌, ◌-◌, ◌/◌, ◌%◌, ◌^◌, not, ◌&&◌, cond, List, eqb, ltb, ℤ, pos, neg_ℤ, ◌-ℤ◌}
+use Rattle.std.specs.Prelude.{ℕ, ◌+◌, ◌*◌, ◌-◌, ◌/◌, ◌%◌, ◌^◌, not, ◌&&◌, cond, List, eqb, ltb, ℤ, pos, neg_ℤ, ◌-ℤ◌, Err, Ok, Result}
 use Rattle.refusal.specs.declared.Refusal.TheVariants as refusal
 use Rattle.trig.specs.Angle.{angle_of}
 use Rattle.elements.specs.Elements.{checked}
 use Rattle.elements.specs.declared.Elements.{Elements}
-use Rattle.elements.specs.declared.Verdict.{Verdict}
-use Rattle.elements.specs.declared.Verdict.TheVariants as verdict
 use Rattle.two_line_fields.specs.Calendar.{days_before}
 use Rattle.two_line_fields.specs.Decimals.{byte_of}
 use Rattle.two_line_fields.specs.Fields.{year_of, value_of, first_bad}
 use Rattle.two_line_fields.specs.Layout.{satellite_number, day, half_derivative, inclination, node, eccentricity, argument_of_perigee, mean_anomaly, mean_motion, revolution}
 use Rattle.two_line.specs.Lines.{begins, checksum_holds}
-use Rattle.two_line.specs.declared.TwoLineReading.{TwoLineReading}
-use Rattle.two_line.specs.declared.TwoLineReading.TheVariants.{Taken, Refused}
+use Rattle.refusal.specs.Refused.{refused_at}
+use Rattle.refusal.specs.declared.Refusal.{Refusal}
+use Rattle.refusal.specs.declared.RefusedAt.{RefusedAt}
 
 -- ---- the epoch, moved back to the full second
 
@@ -75,20 +74,20 @@ taken first second = taken_with (value_of second mean_motion) first second
 
 -- ---- the refusals, in their order
 
-abbrev pub judged : Verdict → Elements → TwoLineReading
-judged verdict.Passed el = Taken el
-judged (verdict.Refused refusal) el = Refused refusal 0
+abbrev pub judged : Result Unit Refusal → Elements → Result Elements RefusedAt
+judged (Ok tt) el = Ok el
+judged (Err refusal) el = Err (refused_at refusal 0)
 
-unfoldable pub two_line_reading : List ℕ → List ℕ → ℕ → ℤ → ℤ → TwoLineReading
+unfoldable pub two_line_reading : List ℕ → List ℕ → ℕ → ℤ → ℤ → Result Elements RefusedAt
 two_line_reading first second axis node_rate perigee_rate =
     -- 17: "1" and "2" first
-    cond (not (begins 49 first && begins 50 second)) (Refused refusal.Lines 0)
+    cond (not (begins 49 first && begins 50 second)) (Err (refused_at refusal.Lines 0))
     -- 18
-    (cond (not (checksum_holds first && checksum_holds second)) (Refused refusal.Checksum 0)
+    (cond (not (checksum_holds first && checksum_holds second)) (Err (refused_at refusal.Checksum 0))
     -- 19
-    (cond (not (eqb (first_bad first second) 0)) (Refused refusal.Field (first_bad first second))
+    (cond (not (eqb (first_bad first second) 0)) (Err (refused_at refusal.Field (first_bad first second)))
     -- 20
-    (cond (not (eqb (value_of first satellite_number) (value_of second satellite_number))) (Refused refusal.SatelliteNumbers 0)
+    (cond (not (eqb (value_of first satellite_number) (value_of second satellite_number))) (Err (refused_at refusal.SatelliteNumbers 0))
     -- 1 to 7, 16, 8
     (let el = taken first second axis node_rate perigee_rate in
     judged (checked el) el))))

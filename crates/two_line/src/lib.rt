@@ -11,17 +11,9 @@ ghost use Rattle.two_line_fields.specs.Fields.{value_of, bad_from};
 ghost use Rattle.two_line_fields.specs.Layout.{satellite_number, first_line, second_line, mean_motion};
 ghost use Rattle.two_line.specs.Reading.{derivative_of, taken_with, two_line_reading};
 
-use elements::{Elements, Verdict};
-use refusal::Refusal;
+use elements::Elements;
+use refusal::{Refusal, RefusedAt};
 use two_line_fields::Form;
-
-#[derive(Clone, Copy)]
-pub enum TwoLineReading {
-    Taken(Elements),
-    // With the first column of a field, on the second line with the 69 of the first ahead of it; 0 where no
-    // field is at fault.
-    Refused(Refusal, u32),
-}
 
 fn both(first: bool, second: bool) -> bool
     ensures { result ≡ (first && second) }
@@ -121,7 +113,8 @@ fn taken_with(
 }
 
 // The elements of two lines, with the semi-major axis and the drift rates beside them; or refusals 17, 18, 19,
-// 20, in this order, then those of elements.
+// 20, in this order, then those of elements. 19 has the first column of a field, on the second line with the
+// 69 of the first ahead of it.
 #[tactic(auto, unfolding(crate::specs::Reading::two_line_reading))]
 pub fn read(
     first: &[u8],
@@ -129,22 +122,25 @@ pub fn read(
     semi_major_axis: u32,
     node_rate: i32,
     perigee_rate: i32,
-) -> TwoLineReading
+) -> Result<Elements, RefusedAt>
     ensures { result ≡ two_line_reading first.now second.now semi_major_axis node_rate perigee_rate }
 {
     if !both(line::begins(b'1', first), line::begins(b'2', second)) {
-        return TwoLineReading::Refused(Refusal::Lines, 0);
+        return Err(Refusal::Lines.into());
     }
     if !both(line::checksum_holds(first), line::checksum_holds(second)) {
-        return TwoLineReading::Refused(Refusal::Checksum, 0);
+        return Err(Refusal::Checksum.into());
     }
     let place = bad_in_first(first, bad_in_second(second));
     let same = same_satellite(first, second);
     if place != 0 {
-        return TwoLineReading::Refused(Refusal::Field, place);
+        return Err(RefusedAt {
+            refusal: Refusal::Field,
+            place,
+        });
     }
     if !same {
-        return TwoLineReading::Refused(Refusal::SatelliteNumbers, 0);
+        return Err(Refusal::SatelliteNumbers.into());
     }
     let elements = taken_with(
         mean_motion(second),
@@ -154,8 +150,6 @@ pub fn read(
         node_rate,
         perigee_rate,
     );
-    match elements::check(elements) {
-        Verdict::Refused(refusal) => TwoLineReading::Refused(refusal, 0),
-        Verdict::Passed => TwoLineReading::Taken(elements),
-    }
+    elements::check(elements)?;
+    Ok(elements)
 }

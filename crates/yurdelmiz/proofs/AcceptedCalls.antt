@@ -18,25 +18,18 @@ use Rattle.kepler.proofs.Answer as solver
 use Rattle.orbit.specs.Contract.{StateAt}
 use Rattle.orbit.specs.Placement.{placement}
 use Rattle.orbit.specs.declared.State.{State}
-use Rattle.orbit.specs.declared.Placement.{Placement}
-use Rattle.orbit.specs.declared.Placement.TheVariants as placement
 use Rattle.elements.specs.declared.Elements.{Elements}
 use Rattle.orbit.proofs.Placements.{placed_state}
 use Rattle.integer.proofs.Bounds.{sfits_within}
 use Rattle.elements.specs.Elements.{checked}
-use Rattle.elements.specs.declared.Verdict.TheVariants.{Passed}
 use Rattle.elements.proofs.Accepted.{accepted as elements_passed}
 use Rattle.two_line.specs.Reading.{two_line_reading}
-use Rattle.two_line.specs.declared.TwoLineReading.{TwoLineReading}
-use Rattle.two_line.specs.declared.TwoLineReading.TheVariants as two_line
 use Rattle.two_line.proofs.TakenElements.{AnglesHeld, taken_passed, angles_held}
 use Rattle.elements.specs.Contract.{Held}
 use Rattle.elements_file.specs.Contract.{InBounds}
-use Rattle.elements_file.specs.Reading.{parsed}
+use Rattle.elements_file.specs.Reading.{parsed, malformed_at}
 use Rattle.elements_file.specs.declared.Fault.{Fault}
 use Rattle.elements_file.specs.declared.Fault.TheVariants.{Name, Extra, ControlByte, DecimalPoint, NotWhole, TooLarge, Unended, Missing, TooLong}
-use Rattle.elements_file.specs.declared.Parsed.{Parsed}
-use Rattle.elements_file.specs.declared.Parsed.TheVariants as parsed
 use Rattle.elements_file.proofs.Consistency.{parsed_in_bounds}
 use Rattle.label.specs.Layout.{label_size}
 use Rattle.trailer.specs.Counts.{counts_of}
@@ -44,19 +37,13 @@ use Rattle.label_file.specs.Reading.{held_at}
 use Rattle.trailer.specs.Trailer.{distance_back}
 use Rattle.trailer.specs.declared.Counts.{Counts}
 use Rattle.trailer.specs.declared.Form.TheVariants.{Bytes24}
-use Rattle.label_file.specs.declared.TailReading.{TailReading}
-use Rattle.label_file.specs.declared.TailReading.TheVariants as tail
 use Rattle.label_file.specs.Tail.{tail_reading}
 use Rattle.label_file.proofs.Tails.{held_few}
 use Rattle.labelling.specs.Adding.{adding, buffer_after}
 use Rattle.labelling.specs.Day.{labelling, output_after}
-use Rattle.labelling.specs.declared.Labelling.{Labelling}
-use Rattle.labelling.specs.declared.Labelling.TheVariants as labelling
 use Rattle.labelling.proofs.AddedFile.{added_buffer_accepted}
 use Rattle.labelling.proofs.WrittenFile.{written_buffer_accepted}
-use Rattle.salvage.specs.Salvage.{salvaging, salvaged_output}
-use Rattle.salvage.specs.declared.Salvage.{Salvage}
-use Rattle.salvage.specs.declared.Salvage.TheVariants as salvage
+use Rattle.salvage.specs.Salvage.{salvaging, salvaged_output, kept_of}
 use Rattle.salvage.proofs.Written.{kept_says}
 use Rattle.elements_buffer.specs.Buffer.{elements_bytes, elements_of}
 use Rattle.buffers.specs.Answers.{anomaly_bytes, state_bytes, read_bytes, add_bytes, salvage_bytes, not_held}
@@ -66,6 +53,13 @@ use Rattle.elements_buffer.proofs.ElementsBack.{elements_back}
 use Rattle.statuses.specs.Call.{Call, Outcome, refused, given, call_of, BufferCall, BufferOutcome, rejected, written, buffer_call_of}
 use Rattle.yurdelmiz.specs.Calls.{anomaly_outcome, kepler_call, earth_fixed_at, state_outcome, position_call, elements_outcome, elements_call, two_line_outcome, two_line_call, day_outcome, label_call, label_outcome, add_outcome, add_call, read_outcome, read_call, dark_test_outcome, dark_test_call, salvage_outcome, salvage_call}
 use Rattle.statuses.proofs.Endings.{ends_refused, ends_given}
+use Rattle.elements_file.specs.declared.Malformed.{Malformed}
+use Rattle.labelling.specs.Records.{labelled_to}
+use Rattle.labelling.specs.declared.Labelled.{Labelled}
+use Rattle.refusal.specs.declared.Refusal.{Refusal}
+use Rattle.refusal.specs.declared.RefusedAt.{RefusedAt}
+use Rattle.salvage.specs.declared.Kept.{Kept}
+use Rattle.std.specs.Prelude.{Err, None, Ok, Option, Result, Some}
 
 -- ---- status 0
 
@@ -131,9 +125,9 @@ pub record PositionAnswer (el : Elements) (t : ℤ) (answer : List ℕ) : Type 0
   pub state_at : StateAt el t state
   pub answer_is : answer ≡ state_bytes state (earth_fixed_at state.position t)
 
-position_by : (el : Elements) (t : ℤ) (answer : List ℕ) (r : Placement) → placement el t ≡ r → Ending (state_outcome r t) answer → PositionAnswer el t answer
-position_by el t answer (placement.Refused refusal) e g = absurd (omega (arith, never_0 refusal))
-position_by el t answer (placement.Placed s) e g = record { state = s; state_at = placed_state el t s e; answer_is = g }
+position_by : (el : Elements) (t : ℤ) (answer : List ℕ) (r : Result State Refusal) → placement el t ≡ r → Ending (state_outcome r t) answer → PositionAnswer el t answer
+position_by el t answer (Err refusal) e g = absurd (omega (arith, never_0 refusal))
+position_by el t answer (Ok s) e g = record { state = s; state_at = placed_state el t s e; answer_is = g }
 
 pub position_accepted : (elements : List ℕ) (t : ℤ) (buffer : List ℕ) → (position_call elements t buffer).status ≡ 0
     → PositionAnswer (elements_of elements) t (position_call elements t buffer).answer
@@ -146,13 +140,13 @@ position_accepted elements t buffer s =
 -- the text gives the elements that the calls read from the answer
 pub record ElementsAnswer (text answer : List ℕ) : Type 0 where
   pub elements : Elements
-  pub parsed_is : parsed text ≡ parsed.Whole elements
+  pub parsed_is : parsed text ≡ Ok elements
   pub answer_is : answer ≡ elements_bytes elements
   pub elements_are : elements_of answer ≡ elements
 
-elements_by : (text answer : List ℕ) (r : Parsed) → parsed text ≡ r → Ending (elements_outcome r) answer → ElementsAnswer text answer
-elements_by text answer (parsed.Malformed line element fault) e g = absurd (omega (arith, fault_numbered fault))
-elements_by text answer (parsed.Whole el) e g =
+elements_by : (text answer : List ℕ) (r : Result Elements Malformed) → parsed text ≡ r → Ending (elements_outcome r) answer → ElementsAnswer text answer
+elements_by text answer (Err malformed') e g = absurd (omega (arith, fault_numbered malformed'.fault))
+elements_by text answer (Ok el) e g =
     record { elements = el; parsed_is = e; answer_is = g; elements_are = rw g (ap elements_of (sym (append-nil (elements_bytes el))) ∙ elements_back el [] (subst InBounds e (parsed_in_bounds text))) }
 
 pub elements_accepted : (text buffer : List ℕ) → (elements_call text buffer).status ≡ 0 → ElementsAnswer text (elements_call text buffer).answer
@@ -164,13 +158,13 @@ elements_accepted text buffer s = elements_by text _ (parsed text) refl (accepte
 -- the lines give elements that pass the checks, and that the calls read from the answer
 pub record TwoLineAnswer (first second : List ℕ) (axis : ℕ) (node_rate perigee_rate : ℤ) (answer : List ℕ) : Type 0 where
   pub elements : Elements
-  pub reading_is : two_line_reading first second axis node_rate perigee_rate ≡ two_line.Taken elements
-  pub passes : checked elements ≡ Passed
+  pub reading_is : two_line_reading first second axis node_rate perigee_rate ≡ Ok elements
+  pub passes : checked elements ≡ Ok tt
   pub answer_is : answer ≡ elements_bytes elements
   pub elements_are : elements_of answer ≡ elements
 
 -- within their types
-taken_held : (first second : List ℕ) (axis : ℕ) (node_rate perigee_rate : ℤ) (el : Elements) → two_line_reading first second axis node_rate perigee_rate ≡ two_line.Taken el → Held el
+taken_held : (first second : List ℕ) (axis : ℕ) (node_rate perigee_rate : ℤ) (el : Elements) → two_line_reading first second axis node_rate perigee_rate ≡ Ok el → Held el
 taken_held first second axis node_rate perigee_rate el e =
     let p = taken_passed first second axis node_rate perigee_rate el e in
     let a = elements_passed el p.passes in
@@ -190,9 +184,9 @@ taken_held first second axis node_rate perigee_rate el e =
       derivative = sfits_within a.derivative tt;
     }
 
-two_line_by : (first second : List ℕ) (axis : ℕ) (node_rate perigee_rate : ℤ) (answer : List ℕ) (r : TwoLineReading) → two_line_reading first second axis node_rate perigee_rate ≡ r → Ending (two_line_outcome r) answer → TwoLineAnswer first second axis node_rate perigee_rate answer
-two_line_by first second axis node_rate perigee_rate answer (two_line.Refused refusal place) e g = absurd (omega (arith, never_0 refusal))
-two_line_by first second axis node_rate perigee_rate answer (two_line.Taken el) e g =
+two_line_by : (first second : List ℕ) (axis : ℕ) (node_rate perigee_rate : ℤ) (answer : List ℕ) (r : Result Elements RefusedAt) → two_line_reading first second axis node_rate perigee_rate ≡ r → Ending (two_line_outcome r) answer → TwoLineAnswer first second axis node_rate perigee_rate answer
+two_line_by first second axis node_rate perigee_rate answer (Err refused') e g = absurd (omega (arith, never_0 refused'.refusal))
+two_line_by first second axis node_rate perigee_rate answer (Ok el) e g =
     record {
       elements = el;
       reading_is = e;
@@ -212,7 +206,7 @@ pub record FaultResult (line element number result : ℕ) : Type 0 where
   pub line_is : result / 2 ^ 32 % 2 ^ 24 ≡ line
   pub element_is : result / 2 ^ 32 / 2 ^ 24 ≡ element
 
-pub elements_malformed : (text buffer : List ℕ) (line element : ℕ) (fault : Fault) → length buffer ≡ 52 → parsed text ≡ parsed.Malformed line element fault
+pub elements_malformed : (text buffer : List ℕ) (line element : ℕ) (fault : Fault) → length buffer ≡ 52 → parsed text ≡ Err (malformed_at line element fault)
     → FaultResult line element (fault_number fault) (elements_call text buffer).status
 unfolding elements_call
 elements_malformed text buffer line element fault n e =
@@ -227,21 +221,21 @@ elements_malformed text buffer line element fault n e =
 pub record LabelAnswer (elements telemetry output : List ℕ) : Type 0 where
   pub counts : Counts
   pub end : ℕ
-  pub labelled : labelling (elements_of elements) telemetry (length output) ≡ labelling.Labelled counts end
+  pub labelled : labelling (elements_of elements) telemetry (length output) ≡ Ok (labelled_to counts end)
   pub reads_back : (buffer : List ℕ) → length buffer ≡ 24
       → read_call (label_call elements telemetry output).answer end buffer ≡ record { status = 0; answer = read_bytes Bytes24 counts }
 
-label_by : (elements telemetry output answer : List ℕ) (r : Labelling) → labelling (elements_of elements) telemetry (length output) ≡ r
+label_by : (elements telemetry output answer : List ℕ) (r : Result Labelled RefusedAt) → labelling (elements_of elements) telemetry (length output) ≡ r
     → (label_call elements telemetry output).answer ≡ answer
     → Ending (label_outcome r (output_after (elements_of elements) telemetry output)) answer → LabelAnswer elements telemetry output
 unfolding read_call
-label_by elements telemetry output answer (labelling.Refused refusal place) e a g = absurd (omega (arith, never_0 refusal))
-label_by elements telemetry output answer (labelling.Labelled counts end) e a g =
+label_by elements telemetry output answer (Err refused') e a g = absurd (omega (arith, never_0 refused'.refusal))
+label_by elements telemetry output answer (Ok labelled') e a g =
     record {
-      counts = counts;
-      end = end;
+      counts = labelled'.counts;
+      end = labelled'.end;
       labelled = e;
-      reads_back = λ buffer n. rw (a ∙ g) (sym (ends_given _ _ buffer refl (eq-eqb _ 24 n) (ap read_outcome (written_buffer_accepted (elements_of elements) telemetry output counts end e))));
+      reads_back = λ buffer n. rw (a ∙ g) (sym (ends_given _ _ buffer refl (eq-eqb _ 24 n) (ap read_outcome (written_buffer_accepted (elements_of elements) telemetry output labelled'.counts labelled'.end e))));
     }
 
 pub label_accepted : (elements telemetry output : List ℕ) → (label_call elements telemetry output).status ≡ 0 → LabelAnswer elements telemetry output
@@ -254,25 +248,25 @@ label_accepted elements telemetry output s = label_by elements telemetry output 
 pub record AddAnswer (elements buffer : List ℕ) (size : ℕ) (telemetry answer : List ℕ) : Type 0 where
   pub counts : Counts
   pub end : ℕ
-  pub added : adding (elements_of elements) buffer size telemetry ≡ labelling.Labelled counts end
+  pub added : adding (elements_of elements) buffer size telemetry ≡ Ok (labelled_to counts end)
   pub buffer_is : (add_call elements buffer size telemetry answer).buffer ≡ buffer_after (elements_of elements) buffer size telemetry
   pub answer_is : (add_call elements buffer size telemetry answer).answer ≡ add_bytes counts end
   pub reads_back : (out : List ℕ) → length out ≡ 24
       → read_call (add_call elements buffer size telemetry answer).buffer end out ≡ record { status = 0; answer = read_bytes Bytes24 counts }
 
-add_by : (elements buffer : List ℕ) (size : ℕ) (telemetry answer : List ℕ) (r : Labelling) → adding (elements_of elements) buffer size telemetry ≡ r
+add_by : (elements buffer : List ℕ) (size : ℕ) (telemetry answer : List ℕ) (r : Result Labelled RefusedAt) → adding (elements_of elements) buffer size telemetry ≡ r
     → BufferEnding (add_outcome r (buffer_after (elements_of elements) buffer size telemetry)) (add_call elements buffer size telemetry answer)
     → AddAnswer elements buffer size telemetry answer
 unfolding read_call
-add_by elements buffer size telemetry answer (labelling.Refused refusal place) e g = absurd (omega (arith, never_0 refusal))
-add_by elements buffer size telemetry answer (labelling.Labelled counts end) e g =
+add_by elements buffer size telemetry answer (Err refused') e g = absurd (omega (arith, never_0 refused'.refusal))
+add_by elements buffer size telemetry answer (Ok labelled') e g =
     record {
-      counts = counts;
-      end = end;
+      counts = labelled'.counts;
+      end = labelled'.end;
       added = e;
       buffer_is = g.0;
       answer_is = g.1;
-      reads_back = λ out k. rw g.0 (sym (ends_given _ _ out refl (eq-eqb _ 24 k) (ap read_outcome (added_buffer_accepted (elements_of elements) buffer size telemetry counts end e))));
+      reads_back = λ out k. rw g.0 (sym (ends_given _ _ out refl (eq-eqb _ 24 k) (ap read_outcome (added_buffer_accepted (elements_of elements) buffer size telemetry labelled'.counts labelled'.end e))));
     }
 
 pub add_accepted : (elements buffer : List ℕ) (size : ℕ) (telemetry answer : List ℕ) → (add_call elements buffer size telemetry answer).status ≡ 0 → AddAnswer elements buffer size telemetry answer
@@ -283,20 +277,20 @@ add_accepted elements buffer size telemetry answer s =
 -- ---- yurdelmiz_dark_test
 
 -- the number in the answer is the one that the trailer states, at most 1,024; or the one that stands for a figure not held
-abbrev pub Told : TailReading → ℕ → Type 0
-Told (tail.Refused refusal) figure = ⊥
-Told tail.NotHeld figure = figure ≡ not_held
-Told (tail.Held labels) figure = (figure ≡ labels) × (labels ≤ 1_024)
+abbrev pub Told : Result (Option ℕ) Refusal → ℕ → Type 0
+Told (Err refusal) figure = ⊥
+Told (Ok None) figure = figure ≡ not_held
+Told (Ok (Some labels)) figure = (figure ≡ labels) × (labels ≤ 1_024)
 
 pub dark_test_accepted : (bytes : List ℕ) (size : ℕ) (buffer : List ℕ) → (dark_test_call bytes size buffer).status ≡ 0
     → Told (tail_reading bytes size) (le4 (dark_test_call bytes size buffer).answer 0)
 unfolding dark_test_call not_held
 dark_test_accepted bytes size buffer s = by _ (tail_reading bytes size) refl (accepted _ _ buffer s)
   where
-    by : (answer : List ℕ) (r : TailReading) → tail_reading bytes size ≡ r → Ending (dark_test_outcome r) answer → Told r (le4 answer 0)
-    by answer (tail.Refused refusal) e g = absurd (omega (arith, never_0 refusal))
-    by answer tail.NotHeld e g = ap (λ (l : List ℕ). le4 l 0) g ∙ back4 not_held (omega arith)
-    by answer (tail.Held labels) e g =
+    by : (answer : List ℕ) (r : Result (Option ℕ) Refusal) → tail_reading bytes size ≡ r → Ending (dark_test_outcome r) answer → Told r (le4 answer 0)
+    by answer (Err refusal) e g = absurd (omega (arith, never_0 refusal))
+    by answer (Ok None) e g = ap (λ (l : List ℕ). le4 l 0) g ∙ back4 not_held (omega arith)
+    by answer (Ok (Some labels)) e g =
         let few = held_few bytes size labels e in
         (ap (λ (l : List ℕ). le4 l 0) g ∙ back4 labels (omega (arith, few)), few)
 
@@ -307,7 +301,7 @@ dark_test_accepted bytes size buffer s = by _ (tail_reading bytes size) refl (ac
 pub record SalvageAnswer (body output answer : List ℕ) : Type 0 where
   pub labels : ℕ
   pub dropped : ℕ
-  pub salvaged : salvaging body (length output) ≡ salvage.Kept labels dropped
+  pub salvaged : salvaging body (length output) ≡ Ok (kept_of labels dropped)
   pub each_byte : label_size * labels + dropped ≡ length body
   pub output_is : (salvage_call body output answer).buffer ≡ salvaged_output body output
   pub labels_are : le4 (salvage_call body output answer).answer 0 ≡ labels
@@ -320,16 +314,16 @@ salvage_back : (labels dropped : ℕ) → labels ≤ 1_024 → (le4 (salvage_byt
 unfolding salvage_bytes bytes4 bytes8
 salvage_back labels dropped few = (back4 labels (omega arith), λ h. back8 dropped h)
 
-salvage_by : (body output answer : List ℕ) (r : Salvage) → salvaging body (length output) ≡ r
+salvage_by : (body output answer : List ℕ) (r : Result Kept Refusal) → salvaging body (length output) ≡ r
     → BufferEnding (salvage_outcome r (salvaged_output body output)) (salvage_call body output answer) → SalvageAnswer body output answer
 unfolding read_call
-salvage_by body output answer (salvage.Refused refusal) e g = absurd (omega (arith, never_0 refusal))
-salvage_by body output answer (salvage.Kept labels dropped) e g =
-    let says = kept_says body output labels dropped e in
-    let numbers = salvage_back labels dropped says.0 in
+salvage_by body output answer (Err refusal) e g = absurd (omega (arith, never_0 refusal))
+salvage_by body output answer (Ok kept') e g =
+    let says = kept_says body output kept'.labels kept'.dropped e in
+    let numbers = salvage_back kept'.labels kept'.dropped says.0 in
     record {
-      labels = labels;
-      dropped = dropped;
+      labels = kept'.labels;
+      dropped = kept'.dropped;
       salvaged = e;
       each_byte = says.1;
       output_is = g.0;

@@ -19,15 +19,12 @@ use Rattle.label_file.proofs.Readings.{read_within}
 use Rattle.trailer.proofs.Tallies.{counts_bounded, counts_number, plus_number}
 use Rattle.labelling.specs.Day.{output_after}
 use Rattle.labelling.specs.Records.{records, label_at}
-use Rattle.labelling.specs.declared.Labelling.{Labelling}
 use Rattle.packets.specs.Day.{opening_step}
 use Rattle.packets.specs.Packet.{pending, completed, next_day, packet_step, packet_output}
 use Rattle.packets.specs.Closing.{closing_step, closing_output}
 use Rattle.packets.specs.SoFar.{day_after, SoFar}
 use Rattle.packets.specs.Cutting.{Given, all_bytes, day_from, AllAccepted, labels_from, file_from, OneGo}
 use Rattle.packets.specs.declared.Day.{Day}
-use Rattle.packets.specs.declared.Outcome.{Outcome}
-use Rattle.packets.specs.declared.Outcome.TheVariants.{Accepted, Refused}
 use Rattle.packets.specs.declared.Step.{Step}
 use Rattle.packets.proofs.Steps.{taken_whole}
 use Rattle.packets.proofs.TakenSoFar.{opening_makes, packet_keeps}
@@ -36,11 +33,13 @@ use Rattle.elements_buffer.specs.Buffer.{elements_of}
 use Rattle.elements_buffer.proofs.ElementsBack.{elements_held}
 use Rattle.day_buffer.specs.State.{counts_in, day_of, day_bytes}
 use Rattle.day_buffer.proofs.DaysBack.{day_back}
-use Rattle.statuses.specs.Call.{Call, Outcome as CallOutcome, call_of, BufferCall}
+use Rattle.statuses.specs.Call.{Call, Result Unit RefusedAt as CallOutcome, call_of, BufferCall}
 use Rattle.yurdelmiz.specs.Calls.{label_outcome, day_outcome, label_call, read_outcome, read_call, open_outcome, open_call, step_outcome, packet_call, close_call}
 use Rattle.yurdelmiz.specs.CutDay.{takes, day_labels, day_called, AllEnd, labels_called, CutDay}
 use Rattle.statuses.proofs.Endings.{ends_given}
 use Rattle.yurdelmiz.proofs.AcceptedCalls.{Ending, accepted, BufferEnding, buffer_accepted}
+use Rattle.labelling.specs.declared.Labelled.{Labelled}
+use Rattle.std.specs.Prelude.{Err, Ok}
 
 -- ---- a state in its bytes
 
@@ -59,15 +58,15 @@ lengths_hold true outcome buffer e = refl
 lengths_hold false outcome buffer e = absurd (omega arith)
 
 -- of yurdelmiz_packet and yurdelmiz_close: the step was accepted, and the bytes are those of its output and its state
-pub step_by : (call : BufferCall) (o : Outcome) (d : Day) (after : List ℕ) → BufferEnding (step_outcome o d after) call → (o ≡ Accepted) × (call.buffer ≡ after) × (call.answer ≡ day_bytes d)
-step_by call (Refused refusal place) d after g = absurd (omega (arith, never_0 refusal))
-step_by call Accepted d after g = (refl, g.0, g.1)
+pub step_by : (call : BufferCall) (o : Result Unit RefusedAt) (d : Day) (after : List ℕ) → BufferEnding (step_outcome o d after) call → (o ≡ Ok tt) × (call.buffer ≡ after) × (call.answer ≡ day_bytes d)
+step_by call (Err refused) d after g = absurd (omega (arith, never_0 refused.refusal))
+step_by call (Ok tt) d after g = (refl, g.0, g.1)
 
 module _ (day packet output : List ℕ) (ended : (packet_call day packet output).status ≡ 0) where
   abbrev d : Day
   d = day_of day
 
-  pub taken : ((packet_step (day_of day) packet (length output)).outcome ≡ Accepted) × ((packet_call day packet output).buffer ≡ packet_output (day_of day) packet output) × ((packet_call day packet output).answer ≡ day_bytes (packet_step (day_of day) packet (length output)).day)
+  pub taken : ((packet_step (day_of day) packet (length output)).outcome ≡ Ok tt) × ((packet_call day packet output).buffer ≡ packet_output (day_of day) packet output) × ((packet_call day packet output).answer ≡ day_bytes (packet_step (day_of day) packet (length output)).day)
   unfolding packet_call
   taken = step_by (packet_call day packet output) (packet_step d packet (length output)).outcome (packet_step d packet (length output)).day (packet_output d packet output) (buffer_accepted _ _ output day ended)
 
@@ -112,15 +111,15 @@ called el bytes day (h ∷ hs) held s ends =
 
 -- ---- from the opening to the closing
 
-open_by : (o : Outcome) (d : Day) (answer : List ℕ) → Ending (open_outcome o d) answer → (o ≡ Accepted) × (answer ≡ day_bytes d)
-open_by (Refused refusal place) d answer g = absurd (omega (arith, never_0 refusal))
-open_by Accepted d answer g = (refl, g)
+open_by : (o : Result Unit RefusedAt) (d : Day) (answer : List ℕ) → Ending (open_outcome o d) answer → (o ≡ Ok tt) × (answer ≡ day_bytes d)
+open_by (Err refused) d answer g = absurd (omega (arith, never_0 refused.refusal))
+open_by (Ok tt) d answer g = (refl, g)
 
 module _ (elements day : List ℕ) (below : (i : ℕ) → get_or elements i 0 < 256) (ended : (open_call elements day).status ≡ 0) where
   abbrev el : Elements
   el = elements_of elements
 
-  pub opened : ((opening_step (elements_of elements)).outcome ≡ Accepted) × ((open_call elements day).answer ≡ day_bytes (opening_step (elements_of elements)).day)
+  pub opened : ((opening_step (elements_of elements)).outcome ≡ Ok tt) × ((open_call elements day).answer ≡ day_bytes (opening_step (elements_of elements)).day)
   unfolding open_call
   opened = open_by (opening_step el).outcome (opening_step el).day _ (accepted _ _ day ended)
 
@@ -141,7 +140,7 @@ module _ (elements day : List ℕ) (below : (i : ℕ) → get_or elements i 0 < 
     last_is : day_of (day_called (open_call elements day).answer hs) ≡ day_from (opening_step (elements_of elements)).day hs
     last_is = all.day_is ∙ ap (λ (x : Day). day_from x hs) first
 
-    closed : ((closing_step (day_of (day_called (open_call elements day).answer hs)) (length last)).outcome ≡ Accepted) × ((close_call (day_called (open_call elements day).answer hs) last).buffer ≡ closing_output (day_of (day_called (open_call elements day).answer hs)) last)
+    closed : ((closing_step (day_of (day_called (open_call elements day).answer hs)) (length last)).outcome ≡ Ok tt) × ((close_call (day_called (open_call elements day).answer hs) last).buffer ≡ closing_output (day_of (day_called (open_call elements day).answer hs)) last)
     unfolding close_call
     closed =
         let d = day_of bytes in
@@ -167,7 +166,7 @@ cut_day elements day hs last below ended ends closes =
     record {
       labelled = λ output enough.
           sym (ends_given _ _ output (sym (go.written output enough)) (eq-eqb _ 52 (long elements day below ended))
-          (ap (λ (a : Labelling). label_outcome a (output_after el (all_bytes hs) output)) (go.accepted (length output) enough)));
+          (ap (λ (a : Result Labelled RefusedAt). label_outcome a (output_after el (all_bytes hs) output)) (go.accepted (length output) enough)));
       reads = λ out h.
           let whole = read_within file (length file) (omega arith) ∙ ap file_reading (take-length file) ∙ go.reads_back.accepted [] in
           ap (λ (c : Call). c.status) (sym (ends_given _ _ out refl (eq-eqb _ 24 h) (ap read_outcome whole)));

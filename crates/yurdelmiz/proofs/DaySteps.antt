@@ -6,14 +6,15 @@ use Rattle.refusal.specs.declared.Refusal.{Refusal}
 use Rattle.packets.specs.Packet.{output_by}
 use Rattle.packets.specs.Contract.{Stepped}
 use Rattle.packets.specs.declared.Day.{Day}
-use Rattle.packets.specs.declared.Outcome.{Outcome}
-use Rattle.packets.specs.declared.Outcome.TheVariants.{Refused}
 use Rattle.packets.specs.declared.Step.{Step}
 use Rattle.yurdelmiz.specs.Calls.{step_outcome}
+use Rattle.refusal.specs.Refused.{refused_at}
+use Rattle.refusal.specs.declared.RefusedAt.{RefusedAt}
+use Rattle.std.specs.Prelude.{Err, Result}
 
-module _ {step : Step} {bytes output : List ℕ} {next : Day} {after : List ℕ} {outcome : Outcome} (stepped : Stepped step bytes output next after outcome) where
-  pub step_outcome_lem : {x : Outcome} → outcome ≡ x → step_outcome step.outcome step.day (output_by step.outcome bytes output) ≡ step_outcome x next (output_by step.outcome bytes output)
+module _ {step : Step} {bytes output : List ℕ} {next : Day} {after : List ℕ} {outcome : Result Unit RefusedAt} (stepped : Stepped step bytes output next after outcome) where
+  pub step_outcome_lem : {x : Result Unit RefusedAt} → outcome ≡ x → step_outcome step.outcome step.day (output_by step.outcome bytes output) ≡ step_outcome x next (output_by step.outcome bytes output)
   step_outcome_lem e = λ i. step_outcome ((sym stepped.outcome_is ∙ e) i) (sym stepped.day_is i) (output_by step.outcome bytes output)
 
-  pub unchanged : {refusal : Refusal} {place : ℕ} → outcome ≡ Refused refusal place → after ≡ output
-  unchanged e = stepped.output_is ∙ ap (λ (o : Outcome). output_by o bytes output) (sym stepped.outcome_is ∙ e)
+  pub unchanged : {refusal : Refusal} {place : ℕ} → outcome ≡ Err (refused_at refusal place) → after ≡ output
+  unchanged e = stepped.output_is ∙ ap (λ (o : Result Unit RefusedAt). output_by o bytes output) (sym stepped.outcome_is ∙ e)

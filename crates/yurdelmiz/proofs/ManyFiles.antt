@@ -5,8 +5,6 @@ use mathlib.Core.List.{List, [], ◌∷◌, ◌++◌, foldl, foldl-append, appen
 use borrow.Author.Tests.{eq-eqb}
 use lib.ListN.{replicate}
 use Rattle.endian.specs.LittleEndian.{bytes4, bytes8}
-use Rattle.scale.specs.declared.Scaling.{Scaling}
-use Rattle.scale.specs.declared.Scaling.TheVariants.{Added, Refused}
 use Rattle.scale.specs.Figures.{nothing}
 use Rattle.scale.specs.Step.{scaling}
 use Rattle.scale.specs.Files.{Given, afterwards, after_one, after}
@@ -18,6 +16,9 @@ use Rattle.statuses.specs.Call.{Call, ended}
 use Rattle.yurdelmiz.specs.Calls.{scale_outcome, scale_call}
 use Rattle.yurdelmiz.specs.ScaledFiles.{scaled_buffer, ScaledFiles}
 use Rattle.statuses.proofs.Endings.{ends}
+use Rattle.refusal.specs.declared.RefusedAt.{RefusedAt}
+use Rattle.scale.specs.declared.Figures.{Figures}
+use Rattle.std.specs.Prelude.{Err, Ok, Result}
 
 start : replicate 48 0 ≡ figures_bytes nothing
 unfolding figures_bytes nothing bytes8 bytes4
@@ -31,9 +32,9 @@ one gs g =
     ∙ rw (figures_back f (made gs)) (by (scaling f g.buffer g.size))
     ∙ ap figures_bytes (sym (foldl-append after_one nothing gs (g ∷ [])))
   where
-    by : (s : Scaling) → (ended (scale_outcome s) (figures_bytes (after gs))).answer ≡ figures_bytes (afterwards (after gs) s)
-    by (Refused refusal place) = refl
-    by (Added f) = refl
+    by : (s : Result Figures RefusedAt) → (ended (scale_outcome s) (figures_bytes (after gs))).answer ≡ figures_bytes (afterwards (after gs) s)
+    by (Err refused) = refl
+    by (Ok f) = refl
 
 steps : (before gs : List Given) → foldl scaled_buffer (figures_bytes (after before)) gs ≡ figures_bytes (after (before ++ gs))
 steps before [] = ap (λ (l : List Given). figures_bytes (after l)) (sym (append-nil before))

@@ -11,12 +11,12 @@ use Rattle.position.specs.Box.{Turnable, CelestialBox}
 use Rattle.position.specs.declared.Position.{Position}
 use Rattle.time.specs.Range.{in_range}
 use Rattle.orbit.specs.declared.State.{State}
-use Rattle.orbit.specs.declared.Placement.TheVariants.{Placed}
 use Rattle.elements.specs.declared.Elements.{Elements}
 use Rattle.orbit.specs.Ellipse.{Between}
 use Rattle.orbit.specs.Placement.{placement}
 use Rattle.elements.proofs.Accepted.{accepted_at}
 use Rattle.orbit.proofs.Placements.{placed_passed}
+use Rattle.std.specs.Prelude.{Ok}
 
 below : (a e : ℕ) (r : ℤ) → a ≤ 100_000_000 → e ≤ 9_000_000 → Between a e r → nat_abs r < 2 ^ 32
 below a e (pos n) ha he h =
@@ -25,7 +25,7 @@ below a e (pos n) ha he h =
     omega (arith, leb→le (n * 10_000_000) (a * (10_000_000 + e)) h.apogee.le)
 below a e (negsuc n) ha he h = absurd h.perigee.le
 
-module _ (el : Elements) (t : ℤ) (s : State) (given : placement el t ≡ Placed s) where
+module _ (el : Elements) (t : ℤ) (s : State) (given : placement el t ≡ Ok s) where
   pub time_in_range : in_range t ≡ true
   time_in_range = (accepted_at el t (placed_passed el t given)).is_in_range
 

@@ -12,13 +12,13 @@ use Rattle.elements_buffer.specs.Buffer.{elements_of, elements_bytes}
 use Rattle.elements_buffer.proofs.ElementsBack.{elements_held}
 use Rattle.element_sets.specs.Table.{row_size, row_at, is_table_in}
 use Rattle.element_sets.specs.Putting.{putting, with_set}
-use Rattle.element_sets.specs.declared.insertion.Putting.{Putting}
-use Rattle.element_sets.specs.declared.insertion.Putting.TheVariants.{Put, Refused}
 use Rattle.element_sets.proofs.AfterPutting.{new_set_found}
 use Rattle.buffers.specs.Answers.{found_bytes}
 use Rattle.statuses.proofs.Endings.{ends_given}
 use Rattle.yurdelmiz.specs.Calls.{find_outcome, find_set_call, put_outcome, put_set_call}
 use Rattle.yurdelmiz.proofs.AcceptedCalls.{BufferEnding, buffer_accepted}
+use Rattle.refusal.specs.declared.Refusal.{Refusal}
+use Rattle.std.specs.Prelude.{Err, Ok, Result}
 
 -- the row whose offset a find call gives, as one of the past, for the time of the new set
 pub record FoundSet (elements table forecast : List ℕ) (end forecast_size : ℕ) (out : List ℕ) : Type 0 where
@@ -29,19 +29,19 @@ pub record FoundSet (elements table forecast : List ℕ) (end forecast_size : �
 -- the buffer and the answer are those of the definition, and a find call with the table as the past gives the new set for its epoch
 pub record PutSetAnswer (elements buffer : List ℕ) (size : ℕ) (answer : List ℕ) : Type 0 where
   pub end : ℕ
-  pub put : putting (elements_of elements) buffer size ≡ Put end
+  pub put : putting (elements_of elements) buffer size ≡ Ok end
   pub buffer_is : (put_set_call elements buffer size answer).buffer ≡ with_set (elements_of elements) buffer size
   pub answer_is : (put_set_call elements buffer size answer).answer ≡ bytes8 end
   pub finds : (forecast : List ℕ) (forecast_size : ℕ) → is_table_in forecast forecast_size ≡ true → (out : List ℕ) → length out ≡ 12
       → FoundSet elements (put_set_call elements buffer size answer).buffer forecast end forecast_size out
 
 module _ (elements buffer : List ℕ) (size : ℕ) (answer : List ℕ) (bytes : (i : ℕ) → get_or elements i 0 < 256) where
-  by : (p : Putting) → putting (elements_of elements) buffer size ≡ p
+  by : (p : Result ℕ Refusal) → putting (elements_of elements) buffer size ≡ p
       → BufferEnding (put_outcome p (with_set (elements_of elements) buffer size)) (put_set_call elements buffer size answer)
       → PutSetAnswer elements buffer size answer
   unfolding find_set_call
-  by (Refused refusal) e g = absurd (omega (arith, never_0 refusal))
-  by (Put end) e g =
+  by (Err refusal) e g = absurd (omega (arith, never_0 refusal))
+  by (Ok end) e g =
       record {
         end = end;
         put = e;

@@ -6,14 +6,14 @@ use lib.ListN.{length}
 use Rattle.refusal.specs.declared.Refusal.{Refusal}
 use Rattle.salvage.specs.Salvage.{salvaging, salvaged_output}
 use Rattle.salvage.specs.Contract.{Salvaged}
-use Rattle.salvage.specs.declared.Salvage.{Salvage}
-use Rattle.salvage.specs.declared.Salvage.TheVariants.{Refused}
 use Rattle.salvage.proofs.Written.{refused_stays}
 use Rattle.yurdelmiz.specs.Calls.{salvage_outcome}
+use Rattle.salvage.specs.declared.Kept.{Kept}
+use Rattle.std.specs.Prelude.{Err, Result}
 
-module _ {body output after : List ℕ} {r : Salvage} (salvaged : Salvaged body output after r) where
-  pub salvage_outcome_lem : {x : Salvage} → r ≡ x → salvage_outcome (salvaging body (length output)) (salvaged_output body output) ≡ salvage_outcome x (salvaged_output body output)
-  salvage_outcome_lem e = ap (λ (x : Salvage). salvage_outcome x (salvaged_output body output)) (sym salvaged.answer_is ∙ e)
+module _ {body output after : List ℕ} {r : Result Kept Refusal} (salvaged : Salvaged body output after r) where
+  pub salvage_outcome_lem : {x : Result Kept Refusal} → r ≡ x → salvage_outcome (salvaging body (length output)) (salvaged_output body output) ≡ salvage_outcome x (salvaged_output body output)
+  salvage_outcome_lem e = ap (λ (x : Result Kept Refusal). salvage_outcome x (salvaged_output body output)) (sym salvaged.answer_is ∙ e)
 
-  pub unchanged : {refusal : Refusal} → r ≡ Refused refusal → after ≡ output
+  pub unchanged : {refusal : Refusal} → r ≡ Err refusal → after ≡ output
   unchanged e = salvaged.output_is ∙ refused_stays body output _ (sym salvaged.answer_is ∙ e)

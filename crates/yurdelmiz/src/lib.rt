@@ -7,19 +7,9 @@ ghost use Rattle.trig.specs.Contract.{CosineAt};
 ghost use Rattle.trig.specs.ExactSine.{SineAt};
 ghost use Rattle.yurdelmiz.specs.Calls.{kepler_call, sun_call, position_call, shade_call, elements_call, two_line_call, find_set_call, put_set_call, label_call, add_call, read_call, dark_test_call, scale_call, salvage_call, open_call, packet_call, close_call};
 
-use eclipse::ShadeAnswer;
-use element_sets::{Finding, Putting};
-use elements_file::Parsed;
-use kepler::Solution;
-use label_file::{FileReading, TailReading};
-use labelling::Labelling;
-use orbit::Placement;
-use packets::Outcome;
+use element_sets::Row;
 use position::Position;
-use salvage::Salvage;
-use scale::Scaling;
-use sun::{Direction, SunAnswer};
-use two_line::TwoLineReading;
+use sun::Direction;
 
 // The status of a buffer whose length is not the header's.
 const BAD_BUFFER: u32 = 255;
@@ -52,8 +42,8 @@ pub fn yurdelmiz_kepler(eccentricity: u32, mean_anomaly: u32, answer: &mut [u8])
     }
     let solution = kepler::solve(eccentricity, mean_anomaly);
     match solution {
-        Solution::Refused(refusal) => refusal.number(),
-        Solution::Solved(anomaly) => {
+        Err(refusal) => refusal.number(),
+        Ok(anomaly) => {
             buffers::write_anomaly(answer, anomaly);
             0
         }
@@ -68,8 +58,8 @@ pub fn yurdelmiz_sun(time: i64, answer: &mut [u8]) -> u32
     }
     let found = sun::find(time);
     match found {
-        SunAnswer::Refused(refusal) => refusal.number(),
-        SunAnswer::Found(sun) => {
+        Err(refusal) => refusal.number(),
+        Ok(sun) => {
             buffers::write_sun(answer, sun);
             0
         }
@@ -87,8 +77,8 @@ pub fn yurdelmiz_position(elements: &[u8], time: i64, answer: &mut [u8]) -> u32
     }
     let placement = orbit::position(elements_buffer::read_elements(elements), time);
     match placement {
-        Placement::Refused(refusal) => refusal.number(),
-        Placement::Placed(state) => {
+        Err(refusal) => refusal.number(),
+        Ok(state) => {
             let sun = sun::sun_at(time);
             let position = state.position;
             let earth_fixed = position.earth_fixed(sun.greenwich_hour_angle);
@@ -120,8 +110,8 @@ pub fn yurdelmiz_shade(
     };
     let shaded = eclipse::shade_test(position, sun);
     match shaded {
-        ShadeAnswer::Refused(refusal) => refusal.number(),
-        ShadeAnswer::Shaded(shade) => {
+        Err(refusal) => refusal.number(),
+        Ok(shade) => {
             answer[0] = shade.code();
             0
         }
@@ -136,11 +126,12 @@ pub fn yurdelmiz_elements(text: &[u8], answer: &mut [u8]) -> u64
     }
     let parsed = elements_file::parse(text);
     match parsed {
-        Parsed::Malformed(line, element, fault) => {
-            let number = statuses::fault_number(fault);
-            statuses::status_at(number, statuses::fault_place(line, element))
+        Err(malformed) => {
+            let number = statuses::fault_number(malformed.fault);
+            let place = statuses::fault_place(malformed.line, malformed.element);
+            statuses::status_at(number, place)
         }
-        Parsed::Whole(elements) => {
+        Ok(elements) => {
             elements_buffer::write_elements(answer, 0, elements);
             0
         }
@@ -162,8 +153,8 @@ pub fn yurdelmiz_two_line(
     }
     let reading = two_line::read(first, second, semi_major_axis, node_rate, perigee_rate);
     match reading {
-        TwoLineReading::Refused(refusal, place) => statuses::status_at(refusal.number(), place),
-        TwoLineReading::Taken(elements) => {
+        Err(misread) => statuses::status_at(misread.refusal.number(), misread.place),
+        Ok(elements) => {
             elements_buffer::write_elements(answer, 0, elements);
             0
         }
@@ -185,12 +176,12 @@ pub fn yurdelmiz_find_set(
     }
     let found = element_sets::locate(past, past_size, forecast, forecast_size, time);
     match found {
-        Finding::Refused(refusal) => refusal.number(),
-        Finding::Past(k) => {
+        Err(refusal) => refusal.number(),
+        Ok(Row::Past(k)) => {
             buffers::write_found(answer, 52 * k, PAST);
             0
         }
-        Finding::Forecast(k) => {
+        Ok(Row::Forecast(k)) => {
             buffers::write_found(answer, 52 * k, FORECAST);
             0
         }
@@ -209,8 +200,8 @@ pub fn yurdelmiz_put_set(elements: &[u8], buffer: &mut [u8], size: usize, answer
     }
     let put = element_sets::put(elements_buffer::read_elements(elements), buffer, size);
     match put {
-        Putting::Refused(refusal) => refusal.number(),
-        Putting::Put(end) => {
+        Err(refusal) => refusal.number(),
+        Ok(end) => {
             buffers::write_size(answer, end);
             0
         }
@@ -229,8 +220,8 @@ pub fn yurdelmiz_label(elements: &[u8], telemetry: &[u8], output: &mut [u8]) -> 
         output,
     );
     match labelled {
-        Labelling::Refused(refusal, place) => statuses::status_at(refusal.number(), place),
-        Labelling::Labelled(_, _) => 0,
+        Err(refused) => statuses::status_at(refused.refusal.number(), refused.place),
+        Ok(_) => 0,
     }
 }
 
@@ -256,9 +247,9 @@ pub fn yurdelmiz_add(
         telemetry,
     );
     match added {
-        Labelling::Refused(refusal, place) => statuses::status_at(refusal.number(), place),
-        Labelling::Labelled(counts, end) => {
-            buffers::write_adding(answer, counts, end);
+        Err(refused) => statuses::status_at(refused.refusal.number(), refused.place),
+        Ok(labelled) => {
+            buffers::write_adding(answer, labelled.counts, labelled.end);
             0
         }
     }
@@ -272,9 +263,9 @@ pub fn yurdelmiz_read(file: &[u8], size: usize, answer: &mut [u8]) -> u64
     }
     let reading = label_file::read(file, size);
     match reading {
-        FileReading::Refused(refusal, place) => statuses::status_at(refusal.number(), place),
-        FileReading::Accepted(form, counts) => {
-            buffers::write_reading(answer, form, counts);
+        Err(refused) => statuses::status_at(refused.refusal.number(), refused.place),
+        Ok(contents) => {
+            buffers::write_reading(answer, contents.form, contents.counts);
             0
         }
     }
@@ -288,12 +279,12 @@ pub fn yurdelmiz_dark_test(tail: &[u8], size: u64, answer: &mut [u8]) -> u32
     }
     let reading = label_file::read_tail(tail, size);
     match reading {
-        TailReading::Refused(refusal) => refusal.number(),
-        TailReading::NotHeld => {
+        Err(refusal) => refusal.number(),
+        Ok(None) => {
             buffers::write_figure(answer, NOT_HELD);
             0
         }
-        TailReading::Held(labels) => {
+        Ok(Some(labels)) => {
             buffers::write_figure(answer, labels);
             0
         }
@@ -309,8 +300,8 @@ pub fn yurdelmiz_scale(figures: &mut [u8], file: &[u8], size: usize) -> u64
     let before = figures_buffer::read_figures(figures);
     let scaled = scale::add_file(before, file, size);
     match scaled {
-        Scaling::Refused(refusal, place) => statuses::status_at(refusal.number(), place),
-        Scaling::Added(next) => {
+        Err(refused) => statuses::status_at(refused.refusal.number(), refused.place),
+        Ok(next) => {
             figures_buffer::write_figures(figures, next);
             0
         }
@@ -325,9 +316,9 @@ pub fn yurdelmiz_salvage(body: &[u8], output: &mut [u8], answer: &mut [u8]) -> u
     }
     let salvaged = salvage::keep_labels(body, output);
     match salvaged {
-        Salvage::Refused(refusal) => refusal.number(),
-        Salvage::Kept(labels, dropped) => {
-            buffers::write_salvage(answer, labels, dropped);
+        Err(refusal) => refusal.number(),
+        Ok(kept) => {
+            buffers::write_salvage(answer, kept.labels, kept.dropped);
             0
         }
     }
@@ -345,8 +336,8 @@ pub fn yurdelmiz_open(elements: &[u8], day: &mut [u8]) -> u32
     let step = packets::open_day(elements_buffer::read_elements(elements));
     let outcome = step.outcome;
     match outcome {
-        Outcome::Refused(refusal, _) => refusal.number(),
-        Outcome::Accepted => {
+        Err(refused) => refused.refusal.number(),
+        Ok(()) => {
             let opened = step.day;
             day_buffer::write_day(day, opened);
             0
@@ -364,8 +355,8 @@ pub fn yurdelmiz_packet(day: &mut [u8], packet: &[u8], output: &mut [u8]) -> u64
     let step = packets::take_packet(before, packet, output);
     let outcome = step.outcome;
     match outcome {
-        Outcome::Refused(refusal, place) => statuses::status_at(refusal.number(), place),
-        Outcome::Accepted => {
+        Err(refused) => statuses::status_at(refused.refusal.number(), refused.place),
+        Ok(()) => {
             let next = step.day;
             day_buffer::write_day(day, next);
             0
@@ -383,8 +374,8 @@ pub fn yurdelmiz_close(day: &mut [u8], output: &mut [u8]) -> u64
     let step = packets::close_day(before, output);
     let outcome = step.outcome;
     match outcome {
-        Outcome::Refused(refusal, place) => statuses::status_at(refusal.number(), place),
-        Outcome::Accepted => {
+        Err(refused) => statuses::status_at(refused.refusal.number(), refused.place),
+        Ok(()) => {
             let closed = step.day;
             day_buffer::write_day(day, closed);
             0

@@ -1,15 +1,14 @@
 -- `orbit::position` meets its contract. Assumes nothing.
 use mathlib.Core.Path.{◌≡◌, ◌∙◌, ap, sym}
 use mir.Facts.{to_z-of_z}
-use Rattle.orbit.specs.declared.Placement.TheVariants.{Placed}
-use Rattle.elements.specs.declared.Verdict.TheVariants.{Passed}
 use Rattle.elements.specs.Time.{checked_at}
 use Rattle.elements.proofs.Accepted.{accepted_at}
 use Rattle.orbit.proofs.Placements.{placement_refused, placement_placed}
 use Rattle.orbit.proofs.position.Goals as goal
 use Rattle.orbit.proofs.position.Goals.{In-Passed}
+use Rattle.std.specs.Prelude.{Ok}
 
-passed : (c : In-Passed) → checked_at c.args.elements c.args.time ≡ Passed
+passed : (c : In-Passed) → checked_at c.args.elements c.args.time ≡ Ok tt
 passed c =
     sym (rw (to_z-of_z c.ranges.time) at c.in-Passed.ensures)
 
@@ -32,4 +31,4 @@ returns-in-Refused c =
 pub returns-in-Passed : goal.returns-in-Passed
 returns-in-Passed c =
     let state = rw (to_z-of_z c.ranges.time) at c.state_at.ensures in
-    record { is = ap Placed state.is ∙ placement_placed c.args.elements c.args.time (passed (goal.at.returns-in-Passed c).In-Passed); owes = state.owes }
+    record { is = ap Ok state.is ∙ placement_placed c.args.elements c.args.time (passed (goal.at.returns-in-Passed c).In-Passed); owes = state.owes }

@@ -7,11 +7,12 @@ use lib.ListN.{length, take, drop, length-drop}
 use Rattle.endian.proofs.Slices.{rest_part}
 use mathlib.Core.List.{List}
 use Rattle.trailer.specs.declared.Form.{Form}
-use Rattle.trailer.specs.declared.TrailerReading.TheVariants.{Allowed, Refused}
 use Rattle.trailer.specs.Trailer.{trailer_size, form_of, stated_counts, trailer_allowed, last_bytes, distance_in, trailer_at}
 use Rattle.trailer.proofs.Trailers.{size_bounds, trailer_short, trailer_tested}
 use Rattle.trailer.proofs.find.Goals as goal
 use Rattle.trailer.proofs.find.Goals.{After-allowed}
+use Rattle.std.specs.Prelude.{None, Some}
+use Rattle.trailer.specs.Counts.{contents_of}
 
 pub returns-then-given-lt-SIZE_16 : goal.returns-then-given-lt-SIZE_16
 returns-then-given-lt-SIZE_16 c =
@@ -36,7 +37,7 @@ read_counts-stated-requires c =
 
 -- the test decides
 decides : (c : After-allowed) {t : Bool} → c.allowed.result ≡ t
-    → cond t (Allowed c.form_of-form.result c.read_counts-stated.result) Refused ≡ trailer_at c.args.last.now c.args.size
+    → cond t (Some (contents_of c.form_of-form.result c.read_counts-stated.result)) None ≡ trailer_at c.args.last.now c.args.size
 decides c e =
     let last = c.args.last.now in
     let form = c.form_of-form.result in
@@ -45,7 +46,7 @@ decides c e =
     let stated = c.read_counts-stated.ensures ∙ ap (stated_counts form) (rest_is last c.size-own.ensures) in
     let tested = trailer_tested last c.args.size form_is stated (omega (arith, c.if-given-own.false, c.size-own.ensures)) in
     let same = sym e ∙ c.allowed.ensures ∙ ap (λ (d : ℕ). trailer_allowed form counts d c.args.size) c.find_distance-distance.ensures in
-    ap (λ (t : Bool). cond t (Allowed form counts) Refused) same ∙ sym tested
+    ap (λ (t : Bool). cond t (Some (contents_of form counts)) None) same ∙ sym tested
 
 pub returns-then-allowed : goal.returns-then-allowed
 returns-then-allowed c = decides (goal.at.returns-then-allowed c).After-allowed c.if-allowed.true

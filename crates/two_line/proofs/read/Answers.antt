@@ -6,7 +6,6 @@ use mir.Facts.{to_z-of_z}
 use Rattle.refusal.specs.declared.Refusal.TheVariants as refusal
 use Rattle.elements.specs.Elements.{checked}
 use Rattle.elements.specs.declared.Elements.{Elements}
-use Rattle.two_line.specs.declared.TwoLineReading.TheVariants.{Refused}
 use Rattle.two_line_fields.specs.Fields.{bad_from, first_bad}
 use Rattle.two_line_fields.specs.Layout.{first_line}
 use Rattle.two_line.specs.Lines.{begins, checksum_holds}
@@ -14,6 +13,9 @@ use Rattle.two_line.specs.Reading.{judged, two_line_reading}
 use Rattle.two_line.proofs.Readings.{lines_refused, checksum_refused, field_refused, numbers_refused, elements_judged}
 use Rattle.two_line.proofs.read.Goals as goal
 use Rattle.two_line.proofs.read.Goals.{After-bad_in_first-place, After-both, After-both-2, After-taken_with-elements}
+use Rattle.std.proofs.lemmas.Result.{err_from_is_err_and}
+use Rattle.refusal.specs.Refused.{refused_at}
+use Rattle.std.specs.Prelude.{Err}
 
 -- what the tests told
 begun : (c : After-both) → let a = c.args in c.both.result ≡ (begins 49 a.first.now && begins 50 a.second.now)
@@ -42,27 +44,28 @@ judged_is c =
 pub returns-then-not-both : goal.returns-then-not-both
 returns-then-not-both c =
     let a = c.args in
-    lines_refused a.first.now a.second.now a.semi_major_axis a.node_rate a.perigee_rate (sym (begun (goal.at.returns-then-not-both c).After-both) ∙ c.if-not-both.true)
+    ap Err c.into.ensures ∙ lines_refused a.first.now a.second.now a.semi_major_axis a.node_rate a.perigee_rate (sym (begun (goal.at.returns-then-not-both c).After-both) ∙ c.if-not-both.true)
 
 pub returns-then-not-both-2 : goal.returns-then-not-both-2
 returns-then-not-both-2 c =
     let a = c.args in
-    checksum_refused a.first.now a.second.now a.semi_major_axis a.node_rate a.perigee_rate (begins_both (goal.at.returns-then-not-both-2 c).After-both-2) (sym (summed (goal.at.returns-then-not-both-2 c).After-both-2) ∙ c.if-not-both-2.true)
+    ap Err c.into-then-not-both-2.ensures ∙ checksum_refused a.first.now a.second.now a.semi_major_axis a.node_rate a.perigee_rate (begins_both (goal.at.returns-then-not-both-2 c).After-both-2) (sym (summed (goal.at.returns-then-not-both-2 c).After-both-2) ∙ c.if-not-both-2.true)
 
 pub returns-then-place-ne0 : goal.returns-then-place-ne0
 returns-then-place-ne0 c =
     let a = c.args in
-    ap (Refused refusal.Field) (place_is (goal.at.returns-then-place-ne0 c).After-bad_in_first-place) ∙ field_refused a.first.now a.second.now a.semi_major_axis a.node_rate a.perigee_rate (begins_both (goal.at.returns-then-place-ne0 c).After-both-2) (sums_both (goal.at.returns-then-place-ne0 c).After-bad_in_first-place) (rw (← place_is (goal.at.returns-then-place-ne0 c).After-bad_in_first-place) (ne_eqb _ 0 c.if-place-ne0.true))
+    ap (λ p. Err (refused_at refusal.Field p)) (place_is (goal.at.returns-then-place-ne0 c).After-bad_in_first-place) ∙ field_refused a.first.now a.second.now a.semi_major_axis a.node_rate a.perigee_rate (begins_both (goal.at.returns-then-place-ne0 c).After-both-2) (sums_both (goal.at.returns-then-place-ne0 c).After-bad_in_first-place) (rw (← place_is (goal.at.returns-then-place-ne0 c).After-bad_in_first-place) (ne_eqb _ 0 c.if-place-ne0.true))
 
 pub returns-then-not-same : goal.returns-then-not-same
 returns-then-not-same c =
     let a = c.args in
-    numbers_refused a.first.now a.second.now a.semi_major_axis a.node_rate a.perigee_rate (begins_both (goal.at.returns-then-not-same c).After-both-2) (sums_both (goal.at.returns-then-not-same c).After-bad_in_first-place) (rw (← place_is (goal.at.returns-then-not-same c).After-bad_in_first-place) (eq-eqb _ 0 c.if-place-ne0.false)) (sym c.same_satellite-same.ensures ∙ c.if-not-same.true)
+    ap Err c.into-then-not-same.ensures ∙ numbers_refused a.first.now a.second.now a.semi_major_axis a.node_rate a.perigee_rate (begins_both (goal.at.returns-then-not-same c).After-both-2) (sums_both (goal.at.returns-then-not-same c).After-bad_in_first-place) (rw (← place_is (goal.at.returns-then-not-same c).After-bad_in_first-place) (eq-eqb _ 0 c.if-place-ne0.false)) (sym c.same_satellite-same.ensures ∙ c.if-not-same.true)
 
-pub returns-in-Refused : goal.returns-in-Refused
-returns-in-Refused c =
-    ap (λ v. judged v c.taken_with-elements.result) (sym c.in-Refused.is ∙ c.check.ensures) ∙ judged_is (goal.at.returns-in-Refused c).After-taken_with-elements
+pub returns-in_err-check : goal.returns-in_err-check
+returns-in_err-check c =
+    let p = err_from_is_err_and c.from_residual.result c.from_residual.ensures.1 in
+    p.1 ∙ ap Err p.2 ∙ ap (λ v. judged v c.taken_with-elements.result) (sym (c.in_err-check.was) ∙ c.check.ensures) ∙ judged_is (goal.at.returns-in_err-check c).After-taken_with-elements
 
-pub returns-in-Passed : goal.returns-in-Passed
-returns-in-Passed c =
-    ap (λ v. judged v c.taken_with-elements.result) (sym c.in-Passed.is ∙ c.check.ensures) ∙ judged_is (goal.at.returns-in-Passed c).After-taken_with-elements
+pub returns : goal.returns
+returns c =
+    ap (λ v. judged v c.taken_with-elements.result) (sym (c.in_ok-check.was) ∙ c.check.ensures) ∙ judged_is (goal.at.returns c).After-taken_with-elements

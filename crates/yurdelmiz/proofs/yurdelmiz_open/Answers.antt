@@ -5,12 +5,13 @@ use borrow.Author.Tests.{eq-eqb, ne_eqb}
 use lib.Dec.{eqb}
 use lib.ListN.{length}
 use Rattle.packets.specs.Day.{opening_step}
-use Rattle.packets.specs.declared.Outcome.{Outcome}
 use Rattle.elements_buffer.specs.Buffer.{elements_of}
 use Rattle.yurdelmiz.specs.Calls.{open_outcome, open_call}
 use Rattle.statuses.proofs.Endings.{bad_buffer, ends_refused, ends_given}
 use Rattle.yurdelmiz.proofs.yurdelmiz_open.Goals as goal
 use Rattle.yurdelmiz.proofs.yurdelmiz_open.Goals.{After-open_day-step, Else-day-ne89}
+use Rattle.refusal.specs.declared.RefusedAt.{RefusedAt}
+use Rattle.std.specs.Prelude.{Result}
 
 pub returns-then-elements-ne52 : goal.returns-then-elements-ne52
 unfolding open_call
@@ -24,10 +25,10 @@ returns-then-day-ne89 c = bad_buffer _ _ _ (rw (eq-eqb _ 52 c.if-elements-ne52.f
 lengths : (c : Else-day-ne89) → let a = c.args in (eqb (length a.elements.now) 52 && eqb (length a.day.now) 89) ≡ true
 lengths c = rw (eq-eqb _ 52 c.if-elements-ne52.false, eq-eqb _ 89 c.if-day-ne89.false)
 
-opened : (c : After-open_day-step) → {x : Outcome} → c.open_day-step.result.outcome ≡ x → let s = opening_step (elements_of c.args.elements.now) in open_outcome s.outcome s.day ≡ open_outcome x c.open_day-step.result.day
+opened : (c : After-open_day-step) → {x : Result Unit RefusedAt} → c.open_day-step.result.outcome ≡ x → let s = opening_step (elements_of c.args.elements.now) in open_outcome s.outcome s.day ≡ open_outcome x c.open_day-step.result.day
 opened c e =
     let is = c.open_day-step.ensures ∙ ap opening_step c.read_elements.ensures in
-    sym (λ i. open_outcome (is i).outcome (is i).day) ∙ ap (λ (x : Outcome). open_outcome x c.open_day-step.result.day) e
+    sym (λ i. open_outcome (is i).outcome (is i).day) ∙ ap (λ (x : Result Unit RefusedAt). open_outcome x c.open_day-step.result.day) e
 
 pub returns-in-Refused : goal.returns-in-Refused
 unfolding open_call

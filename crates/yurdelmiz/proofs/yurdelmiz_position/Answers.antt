@@ -8,8 +8,6 @@ use lib.ListN.{length}
 use mir.Facts.{to_z-of_z}
 use Rattle.integer.proofs.Tests.{and_yes, and_no}
 use Rattle.elements.specs.declared.Elements.{Elements}
-use Rattle.orbit.specs.declared.Placement.{Placement}
-use Rattle.orbit.specs.declared.Placement.TheVariants.{Placed}
 use Rattle.orbit.specs.declared.State.{State}
 use Rattle.orbit.specs.Contract.{PlacementOwes, StateOwes, PlacedAt}
 use Rattle.orbit.specs.Placement.{placement}
@@ -23,6 +21,8 @@ use Rattle.yurdelmiz.proofs.Placed.{time_in_range, radius_small, turnable}
 use borrow.Author.Rules.{rules}
 use Rattle.yurdelmiz.proofs.yurdelmiz_position.Goals as goal
 use Rattle.yurdelmiz.proofs.yurdelmiz_position.Goals.{After-earth_fixed-earth_fixed, After-position-placement}
+use Rattle.refusal.specs.declared.Refusal.{Refusal}
+use Rattle.std.specs.Prelude.{Ok, Result}
 
 abbrev elements : After-position-placement → Elements
 elements c = elements_of c.args.elements.now
@@ -37,12 +37,12 @@ lengths c =
 placed_at : (c : After-position-placement) → PlacedAt (elements c) (time c) c.position-placement.result
 placed_at c = rw (to_z-of_z c.ranges.time, c.read_elements.ensures) at c.position-placement.ensures
 
-outcome_is : (c : After-position-placement) {x : Placement} → c.position-placement.result ≡ x → state_outcome (placement (elements c) (time c)) (time c) ≡ state_outcome x (time c)
-outcome_is c e = ap (λ (x : Placement). state_outcome x (time c)) (sym (placed_at c).is ∙ e)
+outcome_is : (c : After-position-placement) {x : Result State Refusal} → c.position-placement.result ≡ x → state_outcome (placement (elements c) (time c)) (time c) ≡ state_outcome x (time c)
+outcome_is c e = ap (λ (x : Result State Refusal). state_outcome x (time c)) (sym (placed_at c).is ∙ e)
 
 -- of a position that was given
-module _ (c : After-position-placement) (s : State) (e : c.position-placement.result ≡ Placed s) where
-  given : placement (elements c) (time c) ≡ Placed s
+module _ (c : After-position-placement) (s : State) (e : c.position-placement.result ≡ Ok s) where
+  given : placement (elements c) (time c) ≡ Ok s
   given = sym (placed_at c).is ∙ e
 
   owed : StateOwes (elements c) (time c) s

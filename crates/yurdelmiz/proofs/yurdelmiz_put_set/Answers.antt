@@ -7,11 +7,12 @@ use borrow.Author.Tests.{eq-eqb, ne_eqb}
 use Rattle.elements.specs.declared.Elements.{Elements}
 use Rattle.elements_buffer.specs.Buffer.{elements_of}
 use Rattle.element_sets.specs.Putting.{putting, stored, with_set}
-use Rattle.element_sets.specs.declared.insertion.Putting.{Putting}
 use Rattle.yurdelmiz.specs.Calls.{put_outcome, put_set_call}
 use Rattle.statuses.proofs.Endings.{bad_buffers, ends_rejected, ends_written}
 use Rattle.yurdelmiz.proofs.yurdelmiz_put_set.Goals as goal
 use Rattle.yurdelmiz.proofs.yurdelmiz_put_set.Goals.{After-put-put, Else-room-ne8}
+use Rattle.refusal.specs.declared.Refusal.{Refusal}
+use Rattle.std.specs.Prelude.{Result}
 
 -- both lengths are the header's
 lengths : (c : Else-room-ne8) → let a = c.args in (eqb (length a.elements.now) 52 && eqb (length a.answer.now) 8) ≡ true
@@ -24,11 +25,11 @@ module _ (c : After-put-put) where
   put_is : (c.put-put.result ≡ putting el c.args.buffer.now c.args.size) × (c.put-put.new.buffer ≡ stored c.put-put.result el c.args.buffer.now c.args.size)
   put_is = rw c.read_elements.ensures at c.put-put.ensures
 
-  outcome : (r : Putting) → c.put-put.result ≡ r → put_outcome (putting el c.args.buffer.now c.args.size) (with_set el c.args.buffer.now c.args.size) ≡ put_outcome r (with_set el c.args.buffer.now c.args.size)
-  outcome r e = ap (λ (p : Putting). put_outcome p (with_set el c.args.buffer.now c.args.size)) (sym put_is.0 ∙ e)
+  outcome : (r : Result ℕ Refusal) → c.put-put.result ≡ r → put_outcome (putting el c.args.buffer.now c.args.size) (with_set el c.args.buffer.now c.args.size) ≡ put_outcome r (with_set el c.args.buffer.now c.args.size)
+  outcome r e = ap (λ (p : Result ℕ Refusal). put_outcome p (with_set el c.args.buffer.now c.args.size)) (sym put_is.0 ∙ e)
 
-  after : (r : Putting) → c.put-put.result ≡ r → c.put-put.new.buffer ≡ stored r el c.args.buffer.now c.args.size
-  after r e = put_is.1 ∙ ap (λ (p : Putting). stored p el c.args.buffer.now c.args.size) e
+  after : (r : Result ℕ Refusal) → c.put-put.result ≡ r → c.put-put.new.buffer ≡ stored r el c.args.buffer.now c.args.size
+  after r e = put_is.1 ∙ ap (λ (p : Result ℕ Refusal). stored p el c.args.buffer.now c.args.size) e
 
 pub returns-then-elements-ne52 : goal.returns-then-elements-ne52
 unfolding put_set_call

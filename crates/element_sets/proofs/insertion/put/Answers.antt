@@ -7,23 +7,22 @@ use mir.Syntax.{w64}
 use mir.Val.{SFits}
 use mir.Facts.{to_z-of_z}
 use Rattle.elements.specs.Elements.{checked}
-use Rattle.elements.specs.declared.Verdict.TheVariants.{Passed}
-use Rattle.element_sets.specs.declared.table.Scan.TheVariants.{Sound}
-use Rattle.element_sets.specs.Table.{row_size, scanned}
+use Rattle.element_sets.specs.Table.{row_size, scanned, split_at}
 use Rattle.element_sets.proofs.Sound.{Told, told, told_one, told_rows}
 use Rattle.element_sets.proofs.Puts.{put_roomless, put_placed, set_stored}
 use borrow.Author.Rules.{rules}
 use Rattle.element_sets.proofs.insertion.put.Goals as goal
 use Rattle.element_sets.proofs.insertion.put.Goals.{In-Sound}
+use Rattle.std.specs.Prelude.{Ok, Some}
 
 module _ (c : In-Sound) where
   epoch_fits : SFits w64 c.args.elements.epoch
   epoch_fits = search rules
 
-  passed : checked c.args.elements ≡ Passed
+  passed : checked c.args.elements ≡ Ok tt
   passed = sym c.check-verdict.ensures ∙ c.in_default.is
 
-  found : let a = c.args in scanned a.buffer.now a.size a.elements.epoch ≡ Sound c.in-Sound.earlier c.in-Sound.later
+  found : let a = c.args in scanned a.buffer.now a.size a.elements.epoch ≡ Some (split_at c.in-Sound.earlier c.in-Sound.later)
   found = sym (rw (to_z-of_z epoch_fits) at c.scan_table-scan.ensures) ∙ c.in-Sound.is
 
   -- the rows that the table was found to have

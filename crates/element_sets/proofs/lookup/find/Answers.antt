@@ -4,22 +4,23 @@ use Prim.Native.Nat.{◌+◌, ◌*◌, ◌≤◌}
 use native.Mathlib.Omega.{arith}
 use mir.Facts.{to_z-of_z}
 use lib.ListN.{length}
-use Rattle.element_sets.specs.declared.lookup.Finding.TheVariants.{Past, Forecast}
 use Rattle.element_sets.specs.Table.{row_size}
 use Rattle.element_sets.specs.Finding.{finding, refusal_of, RowIs}
 use Rattle.element_sets.proofs.Finds.{past_row, forecast_row, part_is, row_of}
 use Rattle.element_sets.proofs.lookup.find.Goals as goal
 use Rattle.element_sets.proofs.lookup.find.Goals.{In-Forecast, In-Past}
+use Rattle.element_sets.specs.declared.lookup.Row.TheVariants.{Past, Forecast}
+use Rattle.std.specs.Prelude.{Ok}
 
 module _ (c : In-Past) where
-  past_is : let a = c.args in finding a.past.now a.past_size a.forecast.now a.forecast_size a.time ≡ Past c.in-Past.k
+  past_is : let a = c.args in finding a.past.now a.past_size a.forecast.now a.forecast_size a.time ≡ Ok (Past c.in-Past.k)
   past_is = sym (rw (to_z-of_z c.ranges.time) at c.locate-found.ensures) ∙ c.in-Past.is
 
   past_in : row_size * c.in-Past.k + row_size ≤ length c.args.past.now
   past_in = let a = c.args in past_row a.past.now a.past_size a.forecast.now a.forecast_size a.time _ past_is
 
 module _ (c : In-Forecast) where
-  forecast_is : let a = c.args in finding a.past.now a.past_size a.forecast.now a.forecast_size a.time ≡ Forecast c.in-Forecast.k
+  forecast_is : let a = c.args in finding a.past.now a.past_size a.forecast.now a.forecast_size a.time ≡ Ok (Forecast c.in-Forecast.k)
   forecast_is = sym (rw (to_z-of_z c.ranges.time) at c.locate-found.ensures) ∙ c.in-Forecast.is
 
   forecast_in : row_size * c.in-Forecast.k + row_size ≤ length c.args.forecast.now

@@ -1,9 +1,6 @@
 -- `label_file::tail::read_tail` meets its contract. Assumes nothing.
 use mathlib.Core.Path.{◌≡◌, refl, ◌∙◌, sym, ap}
 use Rattle.trailer.specs.declared.Form.{Form}
-use Rattle.label_file.specs.declared.TailReading.{TailReading}
-use Rattle.trailer.specs.declared.TrailerReading.{TrailerReading}
-use Rattle.trailer.specs.declared.TrailerReading.TheVariants.{Allowed}
 use Prim.Native.Nat.{ℕ}
 use mathlib.Core.List.{List}
 use lib.ListN.{length}
@@ -12,6 +9,10 @@ use Rattle.label_file.specs.Tail.{tail_size, held_by}
 use Rattle.label_file.specs.Contract.{TailAnswer}
 use Rattle.label_file.proofs.Tails.{bytes_off, trailer_tells, answers}
 use Rattle.label_file.proofs.tail.read_tail.Goals as goal
+use Rattle.refusal.specs.declared.Refusal.{Refusal}
+use Rattle.std.specs.Prelude.{Option, Result, Some}
+use Rattle.trailer.specs.Counts.{contents_of}
+use Rattle.trailer.specs.declared.Contents.{Contents}
 
 pub returns-then-tail-tail_size : goal.returns-then-tail-tail_size
 returns-then-tail-tail_size c =
@@ -19,7 +20,7 @@ returns-then-tail-tail_size c =
     answers _ _ (sym (bytes_off a.tail.now a.size (λ n. c.if-tail-tail_size.true (n ∙ sym c.tail_size.ensures))))
 
 -- as the trailer tells
-tells : (tail : List ℕ) (size : ℕ) {t : TrailerReading} {answer : TailReading} → length tail ≡ tail_size size → trailer_at tail size ≡ t
+tells : (tail : List ℕ) (size : ℕ) {t : Option Contents} {answer : Result (Option ℕ) Refusal} → length tail ≡ tail_size size → trailer_at tail size ≡ t
     → answer ≡ held_by t → TailAnswer tail size answer
 tells tail size e t h = answers _ _ (h ∙ sym (trailer_tells tail size e t))
 
@@ -30,9 +31,9 @@ returns-in_default c =
 pub returns-in-Bytes16 : goal.returns-in-Bytes16
 returns-in-Bytes16 c =
     tells c.args.tail.now c.args.size (c.if-tail-tail_size.false ∙ c.tail_size.ensures)
-    (sym c.find-found.ensures ∙ c.in-Allowed.is ∙ ap (λ (form : Form). Allowed form c.in-Allowed.stated) c.in-Bytes16.is) refl
+    (sym c.find-found.ensures ∙ c.in-Allowed.is ∙ ap (λ (form : Form). Some (contents_of form c.in-Allowed.stated)) c.in-Bytes16.is) refl
 
 pub returns-in-Bytes24 : goal.returns-in-Bytes24
 returns-in-Bytes24 c =
     tells c.args.tail.now c.args.size (c.if-tail-tail_size.false ∙ c.tail_size.ensures)
-    (sym c.find-found.ensures ∙ c.in-Allowed.is ∙ ap (λ (form : Form). Allowed form c.in-Allowed.stated) c.in-Bytes24.is) refl
+    (sym c.find-found.ensures ∙ c.in-Allowed.is ∙ ap (λ (form : Form). Some (contents_of form c.in-Allowed.stated)) c.in-Bytes24.is) refl
