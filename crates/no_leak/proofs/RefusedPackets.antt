@@ -54,9 +54,9 @@ module _ (el : Elements) (bytes bytes' : List ℕ) (d e : Day) (g h : Given) (gs
         cut = (sizes, r.cut);
         alike = rw (sym (append_assoc bytes p (all_bytes (kept next gs))), sym (append_assoc bytes' q (all_bytes (kept next' hs)))) r.alike;
       }
-  one_more rest (Err refused') a =
-      let is = refused_leaves d g refused'.refusal refused'.place a in
-      let is' = refused_leaves e h refused'.refusal refused'.place (sym same.same_outcome ∙ a) in
+  one_more rest (Err error) a =
+      let is = refused_leaves d g error.refusal error.place a in
+      let is' = refused_leaves e h error.refusal error.place (sym same.same_outcome ∙ a) in
       let r = rest bytes bytes' (subst (SoFar el bytes) (sym is) s) (subst (SoFar el bytes') (sym is') t) alike in
       record {
         accepted = subst (λ (x : Day). AllAccepted x (kept next gs)) is r.accepted;

@@ -23,7 +23,7 @@ pub record SameFiles (first n size : ℕ) (one two : List ℕ) : Type 0 where
 -- by the cases of an answer about one of them: a refusal wrote no file
 abbrev pub FilesBy : Result Labelled RefusedAt → ℕ → List ℕ → List ℕ → Type 0
 FilesBy (Ok labelled) first one two = SameFiles first labelled.counts.labels labelled.end one two
-FilesBy (Err refused') first one two = Unit {0}
+FilesBy (Err error) first one two = Unit {0}
 
 -- two answers, and the buffers afterwards: refused alike, with the same number at the same place, or accepted with the same counts
 -- and the same end; and the files

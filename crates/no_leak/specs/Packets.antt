@@ -120,7 +120,7 @@ InPackets =
 -- the packets that are accepted
 abbrev pub kept_by : Result Unit RefusedAt → Given → List Given → List Given
 kept_by (Ok tt) g gs = g ∷ gs
-kept_by (Err refused') g gs = gs
+kept_by (Err error) g gs = gs
 
 unfoldable pub kept : Day → List Given → List Given
 kept d [] = []

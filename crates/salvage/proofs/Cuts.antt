@@ -27,7 +27,7 @@ use Rattle.trailer.specs.declared.Form.TheVariants.{Bytes16, Bytes24}
 use Rattle.label_file.proofs.Accepted.{AcceptedFile, accepted_file}
 use Rattle.sequence.proofs.Sequences.{leading_all, leading_stops}
 use Rattle.trailer.proofs.Trailers.{Says, size_bounds, trailer_says}
-use Rattle.salvage.specs.Salvage.{whole_labels, kept_labels, kept_bytes, kept_counts, dropped_bytes, salvaged_file, kept_of}
+use Rattle.salvage.specs.Salvage.{whole_labels, kept_labels, kept_bytes, kept_counts, dropped_bytes, salvaged_file, kept_dropping}
 use Rattle.salvage.specs.CutFile.{Sound, whole_before, KeptOf, CutFile}
 use Rattle.salvage.proofs.Starts.{start_leading}
 use Rattle.salvage.proofs.Written.{kept_length, answer_is, output_is}
@@ -146,7 +146,7 @@ module _ (file : List ℕ) (form : Form) (c : Counts) (cut : ℕ) (sound : Sound
         let rest = drop (distance_back Bytes24 (kept_labels piece)) output in
         let trailer = trailer_bytes Bytes24 (kept_counts piece) in
         record {
-          answer_is = answer_is piece output room ∙ ap (λ (k : ℕ). Ok (kept_of k (length piece - label_size * k))) kept_before;
+          answer_is = answer_is piece output room ∙ ap (λ (k : ℕ). Ok (kept_dropping k (length piece - label_size * k))) kept_before;
           labels_are = ap (take (label_size * before)) (output_is piece output room ∙ append_assoc (kept_bytes piece) trailer rest)
               ∙ take_at (kept_bytes piece) (trailer ++ rest) (label_size * before) (omega (arith, kept_length piece, kept_before))
               ∙ ap (λ (k : ℕ). take (label_size * k) piece) kept_before ∙ take-take (label_size * before) cut file (omega arith);

@@ -17,7 +17,7 @@ use Rattle.trailer.specs.declared.Form.TheVariants.{Bytes24}
 use Rattle.sequence.proofs.Sequences.{leading_same}
 use Rattle.label_file.proofs.RoundTrip.{part_start}
 use Rattle.trailer.proofs.Tallies.{counts_same}
-use Rattle.salvage.specs.Salvage.{whole_labels, kept_labels, kept_bytes, kept_counts, dropped_bytes, salvaged_file, salvaging, output_by, salvaged_output, kept_of}
+use Rattle.salvage.specs.Salvage.{whole_labels, kept_labels, kept_bytes, kept_counts, dropped_bytes, salvaged_file, salvaging, output_by, salvaged_output, kept_dropping}
 use Rattle.salvage.specs.Start.{most_bytes, dropping, StartDecides}
 use Rattle.salvage.proofs.Written.{kept_few, kept_within}
 use Rattle.refusal.specs.declared.Refusal.{Refusal}
@@ -59,16 +59,16 @@ module _ (body : List ℕ) where
   dropped_more = omega (arith, length-take most_bytes body, length-drop most_bytes body, held, kept_same)
 
   module _ (output : List ℕ) where
-    by_room : (t : Bool) → ◌≡◌ {A = Result Kept Refusal} (cond t (Err OutputLength) (Ok (kept_of (kept_labels body) (dropped_bytes body))))
-        (dropping (length (drop most_bytes body)) (cond t (Err OutputLength) (Ok (kept_of (kept_labels (take most_bytes body)) (dropped_bytes (take most_bytes body))))))
+    by_room : (t : Bool) → ◌≡◌ {A = Result Kept Refusal} (cond t (Err OutputLength) (Ok (kept_dropping (kept_labels body) (dropped_bytes body))))
+        (dropping (length (drop most_bytes body)) (cond t (Err OutputLength) (Ok (kept_dropping (kept_labels (take most_bytes body)) (dropped_bytes (take most_bytes body))))))
     by_room true = refl
-    by_room false = λ i. Ok (kept_of (sym kept_same i) (dropped_more i))
+    by_room false = λ i. Ok (kept_dropping (sym kept_same i) (dropped_more i))
 
     answer_more : salvaging body (length output) ≡ dropping (length (drop most_bytes body)) (salvaging (take most_bytes body) (length output))
     unfolding salvaging
     answer_more =
         by_room (output_refused (kept_labels body) (length output))
-        ∙ ap (λ (k : ℕ). dropping (length (drop most_bytes body)) (cond (output_refused k (length output)) (Err OutputLength) (Ok (kept_of (kept_labels first) (dropped_bytes first))))) (sym kept_same)
+        ∙ ap (λ (k : ℕ). dropping (length (drop most_bytes body)) (cond (output_refused k (length output)) (Err OutputLength) (Ok (kept_dropping (kept_labels first) (dropped_bytes first))))) (sym kept_same)
 
     -- dropped bytes do not show in the output
     by_answer : (r : Result Kept Refusal) (file : List ℕ) (more : ℕ) → output_by (dropping more r) file output ≡ output_by r file output

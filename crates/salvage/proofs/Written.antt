@@ -24,7 +24,7 @@ use Rattle.label_file.proofs.RoundTrip.{part_start, closed_accepted, closed_labe
 use Rattle.sequence.proofs.Sequences.{leading_le, leading_holds}
 use Rattle.trailer.proofs.Tallies.{counts_same}
 use Rattle.trailer.proofs.Trailers.{trailer_length}
-use Rattle.salvage.specs.Salvage.{whole_labels, kept_labels, kept_bytes, kept_counts, dropped_bytes, salvaged_file, salvaging, output_by, salvaged_output, kept_of}
+use Rattle.salvage.specs.Salvage.{whole_labels, kept_labels, kept_bytes, kept_counts, dropped_bytes, salvaged_file, salvaging, output_by, salvaged_output, kept_dropping}
 use Rattle.salvage.specs.Contract.{Saves, Salvaged}
 use Rattle.salvage.specs.declared.Kept.{Kept}
 use Rattle.std.specs.Prelude.{Err, Ok, Result}
@@ -115,7 +115,7 @@ module _ (body : List ℕ) where
     refused_stays refusal e = ap (λ (r : Result Kept Refusal). output_by r (salvaged_file body) output) e
 
     module _ (enough : distance_back Bytes24 (kept_labels body) ≤ length output) where
-      pub answer_is : salvaging body (length output) ≡ Ok (kept_of (kept_labels body) (dropped_bytes body))
+      pub answer_is : salvaging body (length output) ≡ Ok (kept_dropping (kept_labels body) (dropped_bytes body))
       unfolding salvaging output_refused
       answer_is = rw (le-ltb _ _ enough)
 
@@ -142,12 +142,12 @@ module _ (body : List ℕ) where
       pub salvaged : {m p : List ℕ} {counts : Counts} → counts ≡ kept_counts body
           → m ≡ take (label_size * counts.labels) body ++ drop (label_size * counts.labels) output
           → p ≡ sets m (label_size * counts.labels) (trailer_bytes Bytes24 counts)
-          → Salvaged body output p (Ok (kept_of counts.labels (length body - label_size * counts.labels)))
+          → Salvaged body output p (Ok (kept_dropping counts.labels (length body - label_size * counts.labels)))
       unfolding kept_counts kept_bytes dropped_bytes counts_of
       salvaged {m} {p} c e f =
           let copied = e ∙ ap (λ (x : Counts). take (label_size * x.labels) body ++ drop (label_size * x.labels) output) c in
           let o = f ∙ (λ i. sets (copied i) (label_size * (c i).labels) (trailer_bytes Bytes24 (c i))) ∙ stored in
-          subst (Salvaged body output p) (ap (λ (x : Counts). Ok (kept_of x.labels (length body - label_size * x.labels))) (sym c))
+          subst (Salvaged body output p) (ap (λ (x : Counts). Ok (kept_dropping x.labels (length body - label_size * x.labels))) (sym c))
           (record { answer_is = sym answer_is; output_is = o; owes = rw (ap (take (distance_back Bytes24 n)) o ∙ file_is) saves })
 
     -- what an answer that keeps labels says: few, and with the bytes dropped all that was given; and the file in the output is accepted with their counts
@@ -163,14 +163,15 @@ module _ (body : List ℕ) where
         (kept_few, each_byte, read_within (salvaged_output body output) _ within ∙ ap file_reading (file_is enough) ∙ file_accepted [])
 
     by_room : (labels dropped : ℕ) (t : Bool) → output_refused (kept_labels body) (length output) ≡ t
-        → cond t (Err OutputLength) (Ok (kept_of (kept_labels body) (dropped_bytes body))) ≡ Ok (kept_of labels dropped) → Says labels dropped
+        → cond t (Err OutputLength) (Ok (kept_dropping (kept_labels body) (dropped_bytes body))) ≡ Ok (kept_dropping labels dropped) → Says labels dropped
     unfolding output_refused
     by_room labels dropped true e a = let z : ◌≡◌ {A = ℕ} 0 1 = cc in absurd (omega arith)
     by_room labels dropped false e a =
-        let k : kept_labels body ≡ labels = cc in
-        let d : dropped_bytes body ≡ dropped = cc in
+        let r : kept_dropping (kept_labels body) (dropped_bytes body) ≡ kept_dropping labels dropped = cc in
+        let k : kept_labels body ≡ labels = ap (λ (x : Kept). x.labels) r in
+        let d : dropped_bytes body ≡ dropped = ap (λ (x : Kept). x.dropped) r in
         subst (λ (x : ℕ). Says x dropped) k (subst (Says (kept_labels body)) d (says (ltb-false _ _ e)))
 
-    pub kept_says : (labels dropped : ℕ) → salvaging body (length output) ≡ Ok (kept_of labels dropped) → Says labels dropped
+    pub kept_says : (labels dropped : ℕ) → salvaging body (length output) ≡ Ok (kept_dropping labels dropped) → Says labels dropped
     unfolding salvaging
     kept_says labels dropped a = by_room labels dropped (output_refused (kept_labels body) (length output)) refl a

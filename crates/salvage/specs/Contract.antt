@@ -21,7 +21,7 @@ pub record Saves (body file : List ℕ) (labels dropped : ℕ) : Type 0 where
 
 -- by the cases of the answer
 abbrev pub SalvageOwes : List ℕ → List ℕ → Result Kept Refusal → Type 0
-SalvageOwes body after (Ok kept') = Saves body (take (distance_back Bytes24 kept'.labels) after) kept'.labels kept'.dropped
+SalvageOwes body after (Ok found) = Saves body (take (distance_back Bytes24 found.labels) after) found.labels found.dropped
 SalvageOwes body after (Err refusal) = Unit {0}
 
 -- the answer, the output afterwards, and that the file in it reads back

@@ -6,7 +6,7 @@ use Rattle.label_file.specs.Reading.{file_reading}
 use Rattle.trailer.specs.declared.Counts.{Counts}
 use Rattle.trailer.specs.declared.Form.{Form}
 use Rattle.trailer.specs.declared.Form.TheVariants.{Bytes24}
-use Rattle.salvage.specs.Salvage.{salvaging, salvaged_output, kept_of}
+use Rattle.salvage.specs.Salvage.{salvaging, salvaged_output, kept_dropping}
 use Rattle.trailer.specs.Counts.{contents_of}
 
 -- reading accepts it, and its first label is at its start
@@ -20,7 +20,7 @@ whole_before labels cut = min (cut / label_size) labels
 
 -- n labels are kept, byte for byte, and what else is left of the file is dropped
 pub record KeptOf (file : List ℕ) (cut n : ℕ) (output : List ℕ) : Type 0 where
-  pub answer_is : salvaging (take cut file) (length output) ≡ Ok (kept_of n (length (take cut file) - label_size * n))
+  pub answer_is : salvaging (take cut file) (length output) ≡ Ok (kept_dropping n (length (take cut file) - label_size * n))
   pub labels_are : take (label_size * n) (salvaged_output (take cut file) output) ≡ take (label_size * n) file
 
 -- with either trailer, wherever the cut is, and given room (theorem `cut_file`)

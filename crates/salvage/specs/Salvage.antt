@@ -12,8 +12,8 @@ use Rattle.trailer.specs.declared.Form.TheVariants.{Bytes24}
 use Rattle.refusal.specs.declared.Refusal.{Refusal}
 use Rattle.salvage.specs.declared.Kept.{Kept}
 
-abbrev pub kept_of : ℕ → ℕ → Kept
-kept_of labels dropped = record { labels = labels; dropped = dropped }
+abbrev pub kept_dropping : ℕ → ℕ → Kept
+kept_dropping labels dropped = record { labels = labels; dropped = dropped }
 
 -- how many whole 24 bytes are looked at, of so many bytes: up to the end, or 1,024
 abbrev pub whole_labels : ℕ → ℕ
@@ -41,10 +41,10 @@ salvaged_file body = kept_bytes body ++ trailer_bytes Bytes24 (kept_counts body)
 
 -- what salvage answers: 11, where each label kept counts as a record, or the labels kept and the bytes dropped
 unfoldable pub salvaging : List ℕ → ℕ → Result Kept Refusal
-salvaging body room = cond (output_refused (kept_labels body) room) (Err OutputLength) (Ok (kept_of (kept_labels body) (dropped_bytes body)))
+salvaging body room = cond (output_refused (kept_labels body) room) (Err OutputLength) (Ok (kept_dropping (kept_labels body) (dropped_bytes body)))
 
 abbrev pub output_by : Result Kept Refusal → List ℕ → List ℕ → List ℕ
-output_by (Ok kept') file output = file ++ drop (distance_back Bytes24 kept'.labels) output
+output_by (Ok found) file output = file ++ drop (distance_back Bytes24 found.labels) output
 output_by (Err refusal) file output = output
 
 -- the output afterwards: the file, and past its trailer what stood there; after a refusal, what stood there

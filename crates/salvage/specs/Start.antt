@@ -1,7 +1,7 @@
 -- The start of some bytes decides what salvage keeps of them: whoever has more need hand over no more. Assumes nothing.
 use Rattle.std.specs.Prelude.{◌≡◌, ℕ, ◌+◌, ◌*◌, List, length, take, drop, Err, Ok, Result}
 use Rattle.label.specs.Layout.{label_size}
-use Rattle.salvage.specs.Salvage.{salvaging, salvaged_output, kept_of}
+use Rattle.salvage.specs.Salvage.{salvaging, salvaged_output, kept_dropping}
 use Rattle.refusal.specs.declared.Refusal.{Refusal}
 use Rattle.salvage.specs.declared.Kept.{Kept}
 
@@ -11,7 +11,7 @@ most_bytes = label_size * 1_024
 
 -- an answer, where so many bytes more are dropped
 abbrev pub dropping : ℕ → Result Kept Refusal → Result Kept Refusal
-dropping more (Ok kept') = Ok (kept_of kept'.labels (kept'.dropped + more))
+dropping more (Ok found) = Ok (kept_dropping found.labels (found.dropped + more))
 dropping more (Err refusal) = Err refusal
 
 -- the output is that of the start alone, and the bytes behind it are dropped

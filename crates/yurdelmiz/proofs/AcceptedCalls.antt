@@ -43,7 +43,7 @@ use Rattle.labelling.specs.Adding.{adding, buffer_after}
 use Rattle.labelling.specs.Day.{labelling, output_after}
 use Rattle.labelling.proofs.AddedFile.{added_buffer_accepted}
 use Rattle.labelling.proofs.WrittenFile.{written_buffer_accepted}
-use Rattle.salvage.specs.Salvage.{salvaging, salvaged_output, kept_of}
+use Rattle.salvage.specs.Salvage.{salvaging, salvaged_output, kept_dropping}
 use Rattle.salvage.proofs.Written.{kept_says}
 use Rattle.elements_buffer.specs.Buffer.{elements_bytes, elements_of}
 use Rattle.buffers.specs.Answers.{anomaly_bytes, state_bytes, read_bytes, add_bytes, salvage_bytes, not_held}
@@ -145,7 +145,7 @@ pub record ElementsAnswer (text answer : List ℕ) : Type 0 where
   pub elements_are : elements_of answer ≡ elements
 
 elements_by : (text answer : List ℕ) (r : Result Elements Malformed) → parsed text ≡ r → Ending (elements_outcome r) answer → ElementsAnswer text answer
-elements_by text answer (Err malformed') e g = absurd (omega (arith, fault_numbered malformed'.fault))
+elements_by text answer (Err fault) e g = absurd (omega (arith, fault_numbered fault.fault))
 elements_by text answer (Ok el) e g =
     record { elements = el; parsed_is = e; answer_is = g; elements_are = rw g (ap elements_of (sym (append-nil (elements_bytes el))) ∙ elements_back el [] (subst InBounds e (parsed_in_bounds text))) }
 
@@ -185,7 +185,7 @@ taken_held first second axis node_rate perigee_rate el e =
     }
 
 two_line_by : (first second : List ℕ) (axis : ℕ) (node_rate perigee_rate : ℤ) (answer : List ℕ) (r : Result Elements RefusedAt) → two_line_reading first second axis node_rate perigee_rate ≡ r → Ending (two_line_outcome r) answer → TwoLineAnswer first second axis node_rate perigee_rate answer
-two_line_by first second axis node_rate perigee_rate answer (Err refused') e g = absurd (omega (arith, never_0 refused'.refusal))
+two_line_by first second axis node_rate perigee_rate answer (Err error) e g = absurd (omega (arith, never_0 error.refusal))
 two_line_by first second axis node_rate perigee_rate answer (Ok el) e g =
     record {
       elements = el;
@@ -229,7 +229,7 @@ label_by : (elements telemetry output answer : List ℕ) (r : Result Labelled Re
     → (label_call elements telemetry output).answer ≡ answer
     → Ending (label_outcome r (output_after (elements_of elements) telemetry output)) answer → LabelAnswer elements telemetry output
 unfolding read_call
-label_by elements telemetry output answer (Err refused') e a g = absurd (omega (arith, never_0 refused'.refusal))
+label_by elements telemetry output answer (Err error) e a g = absurd (omega (arith, never_0 error.refusal))
 label_by elements telemetry output answer (Ok labelled') e a g =
     record {
       counts = labelled'.counts;
@@ -258,7 +258,7 @@ add_by : (elements buffer : List ℕ) (size : ℕ) (telemetry answer : List ℕ)
     → BufferEnding (add_outcome r (buffer_after (elements_of elements) buffer size telemetry)) (add_call elements buffer size telemetry answer)
     → AddAnswer elements buffer size telemetry answer
 unfolding read_call
-add_by elements buffer size telemetry answer (Err refused') e g = absurd (omega (arith, never_0 refused'.refusal))
+add_by elements buffer size telemetry answer (Err error) e g = absurd (omega (arith, never_0 error.refusal))
 add_by elements buffer size telemetry answer (Ok labelled') e g =
     record {
       counts = labelled'.counts;
@@ -301,7 +301,7 @@ dark_test_accepted bytes size buffer s = by _ (tail_reading bytes size) refl (ac
 pub record SalvageAnswer (body output answer : List ℕ) : Type 0 where
   pub labels : ℕ
   pub dropped : ℕ
-  pub salvaged : salvaging body (length output) ≡ Ok (kept_of labels dropped)
+  pub salvaged : salvaging body (length output) ≡ Ok (kept_dropping labels dropped)
   pub each_byte : label_size * labels + dropped ≡ length body
   pub output_is : (salvage_call body output answer).buffer ≡ salvaged_output body output
   pub labels_are : le4 (salvage_call body output answer).answer 0 ≡ labels
@@ -318,12 +318,12 @@ salvage_by : (body output answer : List ℕ) (r : Result Kept Refusal) → salva
     → BufferEnding (salvage_outcome r (salvaged_output body output)) (salvage_call body output answer) → SalvageAnswer body output answer
 unfolding read_call
 salvage_by body output answer (Err refusal) e g = absurd (omega (arith, never_0 refusal))
-salvage_by body output answer (Ok kept') e g =
-    let says = kept_says body output kept'.labels kept'.dropped e in
-    let numbers = salvage_back kept'.labels kept'.dropped says.0 in
+salvage_by body output answer (Ok found) e g =
+    let says = kept_says body output found.labels found.dropped e in
+    let numbers = salvage_back found.labels found.dropped says.0 in
     record {
-      labels = kept'.labels;
-      dropped = kept'.dropped;
+      labels = found.labels;
+      dropped = found.dropped;
       salvaged = e;
       each_byte = says.1;
       output_is = g.0;

@@ -72,10 +72,10 @@ module _ (file out answer : List ℕ) (out_length : length out ≡ 24) (answer_l
   refused_by (Ok (Some n)) e s = absurd (omega (arith, sym (asked_status e) ∙ s))
 
   refuses_by : (r : Result Contents RefusedAt) → file_reading file ≡ r → (whole file out).status ≡ 12 → (asked file answer).status ≡ 12
-  refuses_by (Err refused') e s =
-      let number : number_of refused'.refusal ≡ 12 = omega (arith, sym (whole_status e) ∙ s, never_0 refused'.refusal) in
-      let is = one_each refused'.refusal Trailer number in
-      asked_status (says.refuses refused'.place (e ∙ ap (λ (x : Refusal). Err (refused_at x refused'.place)) is))
+  refuses_by (Err error) e s =
+      let number : number_of error.refusal ≡ 12 = omega (arith, sym (whole_status e) ∙ s, never_0 error.refusal) in
+      let is = one_each error.refusal Trailer number in
+      asked_status (says.refuses error.place (e ∙ ap (λ (x : Refusal). Err (refused_at x error.place)) is))
   refuses_by (Ok contents) e s = absurd (omega (arith, sym (whole_status e) ∙ s))
 
   -- of an accepted file
@@ -85,7 +85,7 @@ module _ (file out answer : List ℕ) (out_length : length out ≡ 24) (answer_l
   held_by : (r : Result Contents RefusedAt) → file_reading file ≡ r → (whole file out).status ≡ 0 → le4 (whole file out).answer 20 ≡ 24
       → asked file answer ≡ record { status = 0; answer = bytes4 (le4 (whole file out).answer 16) }
   unfolding trailer_size stating counts_of
-  held_by (Err refused') e s f = absurd (omega (arith, sym (whole_status e) ∙ s, never_0 refused'.refusal))
+  held_by (Err error) e s f = absurd (omega (arith, sym (whole_status e) ∙ s, never_0 error.refusal))
   held_by (Ok contents) e s f = absurd (omega (arith, sym (form_by contents.form contents.counts e) ∙ f))
   held_by (Ok contents) e s f =
       let a = accepted_file file contents.form contents.counts e in
@@ -96,7 +96,7 @@ module _ (file out answer : List ℕ) (out_length : length out ≡ 24) (answer_l
   not_held_by : (r : Result Contents RefusedAt) → file_reading file ≡ r → (whole file out).status ≡ 0 → le4 (whole file out).answer 20 ≡ 16
       → asked file answer ≡ record { status = 0; answer = bytes4 not_held }
   unfolding trailer_size
-  not_held_by (Err refused') e s f = absurd (omega (arith, sym (whole_status e) ∙ s, never_0 refused'.refusal))
+  not_held_by (Err error) e s f = absurd (omega (arith, sym (whole_status e) ∙ s, never_0 error.refusal))
   not_held_by (Ok contents) e s f = absurd (omega (arith, sym (form_by contents.form contents.counts e) ∙ f))
   not_held_by (Ok contents) e s f = asked_by (says.is_not_held contents.counts e)
 

@@ -95,7 +95,7 @@ elements_call text buffer = call_of (eqb (length buffer) 52) (elements_outcome (
 
 -- ---- yurdelmiz_two_line
 abbrev pub two_line_outcome : Result Elements RefusedAt → Outcome
-two_line_outcome (Err refused') = refused (status_at (number_of refused'.refusal) refused'.place)
+two_line_outcome (Err error) = refused (status_at (number_of error.refusal) error.place)
 two_line_outcome (Ok el) = given (elements_bytes el)
 
 unfoldable pub two_line_call : List ℕ → List ℕ → ℕ → ℤ → ℤ → List ℕ → Call
@@ -124,7 +124,7 @@ put_set_call elements buffer size answer =
 
 -- ---- yurdelmiz_label
 abbrev pub label_outcome : Result Labelled RefusedAt → List ℕ → Outcome
-label_outcome (Err refused') after = refused (status_at (number_of refused'.refusal) refused'.place)
+label_outcome (Err error) after = refused (status_at (number_of error.refusal) error.place)
 label_outcome (Ok labelled) after = given after
 
 -- the output after labelling with some elements
@@ -137,7 +137,7 @@ label_call elements telemetry output =
 
 -- ---- yurdelmiz_add
 abbrev pub add_outcome : Result Labelled RefusedAt → List ℕ → BufferOutcome
-add_outcome (Err refused') after = rejected (status_at (number_of refused'.refusal) refused'.place)
+add_outcome (Err error) after = rejected (status_at (number_of error.refusal) error.place)
 add_outcome (Ok labelled) after = written after (add_bytes labelled.counts labelled.end)
 
 unfoldable pub add_call : List ℕ → List ℕ → ℕ → List ℕ → List ℕ → BufferCall
@@ -148,7 +148,7 @@ add_call elements buffer size telemetry answer =
 
 -- ---- yurdelmiz_read
 abbrev pub read_outcome : Result Contents RefusedAt → Outcome
-read_outcome (Err refused') = refused (status_at (number_of refused'.refusal) refused'.place)
+read_outcome (Err error) = refused (status_at (number_of error.refusal) error.place)
 read_outcome (Ok contents) = given (read_bytes contents.form contents.counts)
 
 unfoldable pub read_call : List ℕ → ℕ → List ℕ → Call
@@ -165,7 +165,7 @@ dark_test_call bytes size buffer = call_of (eqb (length buffer) 4) (dark_test_ou
 
 -- ---- yurdelmiz_scale
 abbrev pub scale_outcome : Result Figures RefusedAt → Outcome
-scale_outcome (Err refused') = refused (status_at (number_of refused'.refusal) refused'.place)
+scale_outcome (Err error) = refused (status_at (number_of error.refusal) error.place)
 scale_outcome (Ok f) = given (figures_bytes f)
 
 unfoldable pub scale_call : List ℕ → List ℕ → ℕ → Call
@@ -182,7 +182,7 @@ salvage_call body output answer =
 
 -- ---- yurdelmiz_open
 abbrev pub open_outcome : StepOutcome → Day → Outcome
-open_outcome (Err refused') d = refused (number_of refused'.refusal)
+open_outcome (Err error) d = refused (number_of error.refusal)
 open_outcome (Ok tt) d = given (day_bytes d)
 
 unfoldable pub open_call : List ℕ → List ℕ → Call
@@ -192,7 +192,7 @@ open_call elements day =
 
 -- ---- yurdelmiz_packet
 abbrev pub step_outcome : StepOutcome → Day → List ℕ → BufferOutcome
-step_outcome (Err refused') d after = rejected (status_at (number_of refused'.refusal) refused'.place)
+step_outcome (Err error) d after = rejected (status_at (number_of error.refusal) error.place)
 step_outcome (Ok tt) d after = written after (day_bytes d)
 
 unfoldable pub packet_call : List ℕ → List ℕ → List ℕ → BufferCall
