@@ -14,8 +14,8 @@ returns c =
       labels = c.read_u32-2.ensures i;
       dark = c.read_u32-3.ensures i;
       valid = c.read_u32-4.ensures i;
-      least = c.read_extreme-least.ensures i;
-      greatest = c.read_extreme-greatest.ensures i;
+      least = c.read_extreme.ensures i;
+      greatest = c.read_extreme-2.ensures i;
       sines = sines i;
       squares = c.read_u64.ensures i;
     }
