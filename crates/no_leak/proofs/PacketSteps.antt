@@ -23,7 +23,8 @@ use Rattle.label_file.specs.File.{body_of}
 use Rattle.labelling.specs.Records.{records, label_at, passes_at}
 use Rattle.packets.specs.declared.Day.{Day}
 use Rattle.packets.specs.declared.Step.{Step}
-use Rattle.packets.specs.Day.{is_passed, day_allowed}
+use Rattle.std.specs.Prelude.{is_ok}
+use Rattle.packets.specs.Day.{day_allowed}
 use Rattle.packets.specs.Packet.{pending, completed, next_day, refused_step, packet_step, packet_labels, packet_output, output_by}
 use Rattle.packets.specs.Contract.{AllowedDay}
 use Rattle.packets.specs.Closing.{closed_day, closing_step, closing_output}
@@ -47,7 +48,7 @@ states_refl d = record { same_elements = refl; same_counts = refl; same_closed =
 allowed_alike : (d e : Day) → AlikeStates d e → day_allowed d ≡ day_allowed e
 unfolding day_allowed
 allowed_alike d e s =
-    λ i. not (s.same_closed i) && is_passed (checked (s.same_elements i)) && leb (s.same_have i) 15 && leb (s.same_counts i).labels 1_024 && counts_allowed (s.same_counts i)
+    λ i. not (s.same_closed i) && is_ok (checked (s.same_elements i)) && leb (s.same_have i) 15 && leb (s.same_counts i).labels 1_024 && counts_allowed (s.same_counts i)
 
 closed_alike : (d e : Day) → AlikeStates d e → AlikeStates (closed_day d) (closed_day e)
 unfolding closed_day
