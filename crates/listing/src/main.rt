@@ -42,8 +42,7 @@ fn read_input<R: Read>(input: &mut R, window: &mut [u8]) -> Option<usize>
     ensures { EndsWithin (2 * longest) result }
 {
     let mut end = 0;
-    let mut turns = u64::MAX;
-    while turns > 0 {
+    for _ in 0..u64::MAX {
         let Ok(more) = input.read(&mut window[end..]) else {
             return None;
         };
@@ -51,7 +50,6 @@ fn read_input<R: Read>(input: &mut R, window: &mut [u8]) -> Option<usize>
             return Some(end);
         }
         end = make_room(window, end + more);
-        turns -= 1;
     }
     None
 }
@@ -94,11 +92,8 @@ fn print_failure(rt: &(impl Print + Eprint)) -> io::Result<()> {
 fn print_labels(rt: &impl Print, file: &[u8], form: Form, counts: Counts) -> io::Result<()>
     requires { file_reading file.now ≡ Ok (contents_of form counts) }
 {
-    let labels = counts.labels;
-    let mut number = 0;
-    while number < labels {
+    for number in 0..counts.labels {
         print_label(rt, label_file::label_at(file, form, counts, number))?;
-        number += 1;
     }
     Ok(())
 }
