@@ -1,7 +1,6 @@
 -- What finding answers, case by case. Assumes nothing.
 use mathlib.Core.Path.{◌≡◌, refl, sym, ap, ◌∙◌, subst}
 use Prim.Native.Nat.{ℕ, ◌+◌, ◌*◌, ◌-◌, ◌≤◌, ◌<◌}
-use native.Mathlib.Nat.{add-sub_cancel_left, add_comm}
 use native.Mathlib.Omega.{arith}
 use mathlib.Core.Bool.{Bool, true, false, cond, ◌&&◌}
 use mathlib.Core.List.{List}
@@ -9,12 +8,10 @@ use lib.Dec.{ltb}
 use lib.IntN.{ℤ}
 use lib.ListN.{length, take, drop}
 use lib.Seq.{length-take-le}
-use denote.Ref.{Bor}
 use borrow.Author.Tests.{lt-ltb, le-ltb, ltb-true, ltb-false, le-leb}
 use Rattle.refusal.specs.declared.Refusal.TheVariants.{Table, NoSet}
 use Rattle.element_sets.specs.Table.{row_size, rows_in, is_table_in, before, up_to, scanned, split_at}
-use Rattle.element_sets.specs.Part.{PartOf}
-use Rattle.element_sets.specs.Finding.{found_among, finding, RowIs}
+use Rattle.element_sets.specs.Finding.{found_among, finding}
 use Rattle.element_sets.proofs.Sound.{told, in_buffer, few}
 use Rattle.element_sets.specs.declared.lookup.Row.TheVariants.{Past, Forecast}
 use Rattle.element_sets.specs.declared.lookup.Row.{Row}
@@ -114,17 +111,3 @@ module _ (past : List ℕ) (past_size : ℕ) (forecast : List ℕ) (forecast_siz
 
   pub forecast_row : (k : ℕ) → answer ≡ Ok (Forecast k) → row_size * k + row_size ≤ length forecast
   forecast_row k e = let q = answer_says (Ok (Forecast k)) e in omega (arith, q.first, q.some, (in_buffer forecast forecast_size q.tables.forecast_table).0)
-
--- the row of an answer that is known
-pub row_of : (f g : Result Row Refusal) (past forecast r : Bor (List ℕ)) → f ≡ g → RowIs g past forecast r → RowIs f past forecast r
-row_of f g past forecast r e h = subst (λ (x : Result Row Refusal). RowIs x past forecast r) (sym e) h
-
--- a row, as code takes the part of it
-pub part_is : (x : Bor (List ℕ)) (k : ℕ) (r : Bor (List ℕ)) → r.now ≡ take (row_size * k + row_size - row_size * k) (drop (row_size * k) x.now) → r.ref_ptr.0 ≡ x.ref_ptr.0
-    → r.ref_ptr.1 ≡ row_size * k + x.ref_ptr.1 → PartOf x (row_size * k) row_size r
-part_is x k r h b p =
-    record {
-      holds = h ∙ ap (λ (n : ℕ). take n (drop (row_size * k) x.now)) (add-sub_cancel_left (row_size * k) row_size);
-      block = b;
-      place = p ∙ add_comm (row_size * k) x.ref_ptr.1;
-    }
