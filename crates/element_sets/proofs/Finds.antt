@@ -22,44 +22,6 @@ module _ (past : List ℕ) (past_size : ℕ) (forecast : List ℕ) (forecast_siz
   abbrev answer : Result Row Refusal
   answer = finding past past_size forecast forecast_size time
 
-  -- the answer by what the two tables are
-  abbrev by : Bool → Bool → Result Row Refusal
-  by p f = cond (p && f) (found_among (up_to (take past_size past) time) (rows_in forecast_size)) (Err Table)
-
-  broken : (buffer : List ℕ) (size : ℕ) → scanned buffer size time ≡ None → is_table_in buffer size ≡ false
-  unfolding scanned
-  broken buffer size e = of (is_table_in buffer size) e
-    where
-      of : (t : Bool) → cond t (Some (split_at (before (take size buffer) time) (up_to (take size buffer) time))) None ≡ None → t ≡ false
-      of true e = let z : ◌≡◌ {A = ℕ} 0 1 = cc in absurd (omega arith)
-      of false e = refl
-
-  sound : (buffer : List ℕ) (size : ℕ) {earlier later : ℕ} → scanned buffer size time ≡ Some (split_at earlier later) → is_table_in buffer size ≡ true
-  unfolding is_table_in
-  sound buffer size {earlier} {later} e = let t = told buffer size time earlier later e in rw (le-leb size (length buffer) t.held, t.table)
-
-  pub past_broken : scanned past past_size time ≡ None → Err Table ≡ answer
-  unfolding finding
-  past_broken e = rw (broken past past_size e)
-
-  pub forecast_broken : {a b : ℕ} → scanned past past_size time ≡ Some (split_at a b) → scanned forecast forecast_size time ≡ None → Err Table ≡ answer
-  unfolding finding
-  forecast_broken e f = rw (sound past past_size e, broken forecast forecast_size f)
-
-  module _ {a b c d : ℕ} (e : scanned past past_size time ≡ Some (split_at a b)) (f : scanned forecast forecast_size time ≡ Some (split_at c d)) where
-    both_sound : answer ≡ found_among b (rows_in forecast_size)
-    unfolding finding
-    both_sound = rw (sound past past_size e, sound forecast forecast_size f, (told past past_size time a b e).later_is)
-
-    pub in_past : 0 < b → Ok (Past (b - 1)) ≡ answer
-    in_past h = sym (both_sound ∙ rw (lt-ltb 0 b h))
-
-    pub in_forecast : b ≤ 0 → row_size ≤ forecast_size → Ok (Forecast 0) ≡ answer
-    in_forecast h k = sym (both_sound ∙ rw (le-ltb 0 b h, lt-ltb 0 (rows_in forecast_size) (omega arith)))
-
-    pub nowhere : b ≤ 0 → forecast_size < row_size → Err NoSet ≡ answer
-    nowhere h k = sym (both_sound ∙ rw (le-ltb 0 b h, le-ltb 0 (rows_in forecast_size) (omega arith)))
-
   -- ---- what an answer tells
 
   pub record Tables : Type 0 where

@@ -4,7 +4,7 @@ use Prim.Native.Nat.{ℕ, zero, suc, ◌+◌, ◌%◌, ◌≤◌, ◌<◌}
 use native.Mathlib.Nat.{le_refl, eq-or-lt_of_le}
 use native.Mathlib.Omega.{arith}
 use mathlib.Core.Logic.{⊎_elim}
-use mathlib.Core.Bool.{Bool, true, false, cond, ◌&&◌}
+use mathlib.Core.Bool.{Bool, true, false, cond, ◌&&◌, and-false}
 use mathlib.Core.List.{List}
 use lib.Dec.{eqb}
 use lib.IntN.{ℤ}
@@ -73,32 +73,25 @@ module _ (table : List ℕ) (time : ℤ) (k : ℕ) (keeps : (j : ℕ) → j < k 
   unfolding keeps_at follows
   rises j l = (and_true (accepts (checked (set_at table (suc j)))) (lt_z (epoch_at table j) (epoch_at table (suc j))) (keeps (suc j) l)).1
 
-  -- a row before a time, and one up to it: so are those ahead
-  pub all_before : lt_z (epoch_at table k) time ≡ true → leading (λ j. lt_z (epoch_at table j) time) (k + 1) ≡ k + 1
-  all_before h =
-      leading_all (λ j. lt_z (epoch_at table j) time) (k + 1)
+  -- a row that passes a test which those with earlier epochs pass too
+  all_ahead : (p : ℤ → Bool) → ((a b : ℤ) → lt_z a b ≡ true → p b ≡ true → p a ≡ true) → p (epoch_at table k) ≡ true → leading (λ j. p (epoch_at table j)) (k + 1) ≡ k + 1
+  all_ahead p back h =
+      leading_all (λ j. p (epoch_at table j)) (k + 1)
       (λ j l.
       ⊎_elim
-      (λ (e : j ≡ k). subst (λ (m : ℕ). lt_z (epoch_at table m) time ≡ true) (sym e) h)
-      (λ (m : j < k). let a = before_parts (epoch_at table j) (epoch_at table k) (rising_among table (k + 1) rises j k m (omega arith)) in let b = before_parts (epoch_at table k) time h in parts_before (epoch_at table j) time (omega arith))
+      (λ (e : j ≡ k). subst (λ (m : ℕ). p (epoch_at table m) ≡ true) (sym e) h)
+      (λ (m : j < k). back (epoch_at table j) (epoch_at table k) (rising_among table (k + 1) rises j k m (omega arith)) h)
       (eq-or-lt_of_le {n = j} {m = k} (omega arith)))
+
+  pub all_before : lt_z (epoch_at table k) time ≡ true → leading (λ j. lt_z (epoch_at table j) time) (k + 1) ≡ k + 1
+  all_before =
+      all_ahead (λ e. lt_z e time)
+      (λ a b l h. let x = before_parts a b l in let y = before_parts b time h in parts_before a time (omega arith))
 
   pub all_up_to : le_z (epoch_at table k) time ≡ true → leading (λ j. le_z (epoch_at table j) time) (k + 1) ≡ k + 1
-  all_up_to h =
-      leading_all (λ j. le_z (epoch_at table j) time) (k + 1)
-      (λ j l.
-      ⊎_elim
-      (λ (e : j ≡ k). subst (λ (m : ℕ). le_z (epoch_at table m) time ≡ true) (sym e) h)
-      (λ (m : j < k). let a = before_parts (epoch_at table j) (epoch_at table k) (rising_among table (k + 1) rises j k m (omega arith)) in let b = up_to_parts (epoch_at table k) time h in parts_up_to (epoch_at table j) time (omega arith))
-      (eq-or-lt_of_le {n = j} {m = k} (omega arith)))
-
--- a row that does not pass a test adds none to those that lead
-pub leading_kept : (p : ℕ → Bool) (k : ℕ) → p k ≡ false → leading p (k + 1) ≡ leading p k
-leading_kept p k e = leading_more p k ∙ rw e (no (eqb (leading p k) k))
-  where
-    no : (t : Bool) → cond (t && false) (k + 1) (leading p k) ≡ leading p k
-    no true = refl
-    no false = refl
+  all_up_to =
+      all_ahead (λ e. le_z e time)
+      (λ a b l h. let x = before_parts a b l in let y = up_to_parts b time h in parts_up_to a time (omega arith))
 
 -- ---- the first bytes of a buffer
 

@@ -3,6 +3,7 @@ ghost use Rattle.std.specs.Prelude.{◌≡◌};
 ghost use Rattle.element_sets.specs.Finding.{finding, RowIs};
 
 use crate::table;
+use elements_buffer::SIZE;
 use refusal::Refusal;
 
 // A row of one of the tables, by its number from 0.
@@ -28,7 +29,7 @@ pub fn locate(
     if 0 < in_past.up_to {
         return Ok(Row::Past(in_past.up_to - 1));
     }
-    if 52 <= forecast_size {
+    if SIZE <= forecast_size {
         return Ok(Row::Forecast(0));
     }
     Err(Refusal::NoSet)

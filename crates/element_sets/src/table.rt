@@ -85,7 +85,7 @@ pub(crate) fn scan_table(buffer: &[u8], size: usize, time: i64) -> Option<Split>
     ensures { result ≡ scanned buffer.now size time }
 {
     let table = buffer.get(..size)?;
-    if size % SIZE != 0 {
+    if !size.is_multiple_of(SIZE) {
         return None;
     }
     scan_rows(table, time)

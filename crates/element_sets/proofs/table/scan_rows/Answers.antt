@@ -5,7 +5,8 @@ use mir.Syntax.{w64}
 use mir.Facts.{to_z-of_z}
 use borrow.Author.Count.{below_more}
 use Rattle.sequence.specs.Sequence.{leading}
-use Rattle.element_sets.proofs.Scans.{scan_broken, scan_sound, all_before, all_up_to, leading_kept}
+use Rattle.sequence.proofs.Sequences.{leading_kept}
+use Rattle.element_sets.proofs.Scans.{scan_broken, scan_sound, all_before, all_up_to}
 use Rattle.element_sets.proofs.table.scan_rows.Goals as goal
 use Rattle.element_sets.proofs.table.scan_rows.Goals.{then-epoch-time, else-epoch-time, then-epoch-time-2, else-epoch-time-2}
 

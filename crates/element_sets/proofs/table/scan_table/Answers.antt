@@ -1,6 +1,7 @@
 -- `element_sets::table::scan_table` meets its contract. Assumes nothing.
-use mathlib.Core.Path.{◌≡◌, ap, ◌∙◌}
+use mathlib.Core.Path.{◌≡◌, sym, ap, ◌∙◌}
 use native.Mathlib.Omega.{arith}
+use mathlib.Core.Bool.{true≢false}
 use mathlib.Core.List.{List}
 use lib.ListN.{length}
 use mir.Facts.{to_z-of_z}
@@ -14,10 +15,10 @@ returns-in_err-table c =
     let a = c.args in
     c.from_residual.ensures ∙ scan_beyond a.buffer.now a.size a.time (omega (arith, c.in_err-table.ensures.lookup.0))
 
-pub returns-then-size-ne0 : goal.returns-then-size-ne0
-returns-then-size-ne0 c =
+pub returns-then-not-is_multiple_of : goal.returns-then-not-is_multiple_of
+returns-then-not-is_multiple_of c =
     let a = c.args in
-    scan_ragged a.buffer.now a.size a.time c.in_ok-table.ensures.lookup.0.1 c.if-size-ne0.true
+    scan_ragged a.buffer.now a.size a.time c.in_ok-table.ensures.lookup.0.1 (λ e. true≢false (sym (c.if-not-is_multiple_of.ensures.1 e)))
 
 pub returns : goal.returns
 returns c =
