@@ -1,7 +1,6 @@
 -- What finding answers, case by case. Assumes nothing.
 use mathlib.Core.Path.{◌≡◌, refl, sym, ap, ◌∙◌, subst}
 use Prim.Native.Nat.{ℕ, ◌+◌, ◌*◌, ◌-◌, ◌≤◌, ◌<◌}
-use native.Mathlib.Nat.{add-sub_cancel_left, add_comm}
 use native.Mathlib.Omega.{arith}
 use mathlib.Core.Bool.{Bool, true, false, cond, ◌&&◌}
 use mathlib.Core.List.{List}
@@ -9,12 +8,10 @@ use lib.Dec.{ltb}
 use lib.IntN.{ℤ}
 use lib.ListN.{length, take, drop}
 use lib.Seq.{length-take-le}
-use denote.Ref.{Bor}
 use borrow.Author.Tests.{lt-ltb, le-ltb, ltb-true, ltb-false, le-leb}
 use Rattle.refusal.specs.declared.Refusal.TheVariants.{Table, NoSet}
 use Rattle.element_sets.specs.Table.{row_size, rows_in, is_table_in, before, up_to, scanned, split_at}
-use Rattle.element_sets.specs.Part.{PartOf}
-use Rattle.element_sets.specs.Finding.{found_among, finding, RowIs}
+use Rattle.element_sets.specs.Finding.{found_among, finding}
 use Rattle.element_sets.proofs.Sound.{told, in_buffer, few}
 use Rattle.element_sets.specs.declared.lookup.Row.TheVariants.{Past, Forecast}
 use Rattle.element_sets.specs.declared.lookup.Row.{Row}
@@ -24,44 +21,6 @@ use Rattle.std.specs.Prelude.{Err, None, Ok, Result, Some}
 module _ (past : List ℕ) (past_size : ℕ) (forecast : List ℕ) (forecast_size : ℕ) (time : ℤ) where
   abbrev answer : Result Row Refusal
   answer = finding past past_size forecast forecast_size time
-
-  -- the answer by what the two tables are
-  abbrev by : Bool → Bool → Result Row Refusal
-  by p f = cond (p && f) (found_among (up_to (take past_size past) time) (rows_in forecast_size)) (Err Table)
-
-  broken : (buffer : List ℕ) (size : ℕ) → scanned buffer size time ≡ None → is_table_in buffer size ≡ false
-  unfolding scanned
-  broken buffer size e = of (is_table_in buffer size) e
-    where
-      of : (t : Bool) → cond t (Some (split_at (before (take size buffer) time) (up_to (take size buffer) time))) None ≡ None → t ≡ false
-      of true e = let z : ◌≡◌ {A = ℕ} 0 1 = cc in absurd (omega arith)
-      of false e = refl
-
-  sound : (buffer : List ℕ) (size : ℕ) {earlier later : ℕ} → scanned buffer size time ≡ Some (split_at earlier later) → is_table_in buffer size ≡ true
-  unfolding is_table_in
-  sound buffer size {earlier} {later} e = let t = told buffer size time earlier later e in rw (le-leb size (length buffer) t.held, t.table)
-
-  pub past_broken : scanned past past_size time ≡ None → Err Table ≡ answer
-  unfolding finding
-  past_broken e = rw (broken past past_size e)
-
-  pub forecast_broken : {a b : ℕ} → scanned past past_size time ≡ Some (split_at a b) → scanned forecast forecast_size time ≡ None → Err Table ≡ answer
-  unfolding finding
-  forecast_broken e f = rw (sound past past_size e, broken forecast forecast_size f)
-
-  module _ {a b c d : ℕ} (e : scanned past past_size time ≡ Some (split_at a b)) (f : scanned forecast forecast_size time ≡ Some (split_at c d)) where
-    both_sound : answer ≡ found_among b (rows_in forecast_size)
-    unfolding finding
-    both_sound = rw (sound past past_size e, sound forecast forecast_size f, (told past past_size time a b e).later_is)
-
-    pub in_past : 0 < b → Ok (Past (b - 1)) ≡ answer
-    in_past h = sym (both_sound ∙ rw (lt-ltb 0 b h))
-
-    pub in_forecast : b ≤ 0 → row_size ≤ forecast_size → Ok (Forecast 0) ≡ answer
-    in_forecast h k = sym (both_sound ∙ rw (le-ltb 0 b h, lt-ltb 0 (rows_in forecast_size) (omega arith)))
-
-    pub nowhere : b ≤ 0 → forecast_size < row_size → Err NoSet ≡ answer
-    nowhere h k = sym (both_sound ∙ rw (le-ltb 0 b h, le-ltb 0 (rows_in forecast_size) (omega arith)))
 
   -- ---- what an answer tells
 
@@ -114,17 +73,3 @@ module _ (past : List ℕ) (past_size : ℕ) (forecast : List ℕ) (forecast_siz
 
   pub forecast_row : (k : ℕ) → answer ≡ Ok (Forecast k) → row_size * k + row_size ≤ length forecast
   forecast_row k e = let q = answer_says (Ok (Forecast k)) e in omega (arith, q.first, q.some, (in_buffer forecast forecast_size q.tables.forecast_table).0)
-
--- the row of an answer that is known
-pub row_of : (f g : Result Row Refusal) (past forecast r : Bor (List ℕ)) → f ≡ g → RowIs g past forecast r → RowIs f past forecast r
-row_of f g past forecast r e h = subst (λ (x : Result Row Refusal). RowIs x past forecast r) (sym e) h
-
--- a row, as code takes the part of it
-pub part_is : (x : Bor (List ℕ)) (k : ℕ) (r : Bor (List ℕ)) → r.now ≡ take (row_size * k + row_size - row_size * k) (drop (row_size * k) x.now) → r.ref_ptr.0 ≡ x.ref_ptr.0
-    → r.ref_ptr.1 ≡ row_size * k + x.ref_ptr.1 → PartOf x (row_size * k) row_size r
-part_is x k r h b p =
-    record {
-      holds = h ∙ ap (λ (n : ℕ). take n (drop (row_size * k) x.now)) (add-sub_cancel_left (row_size * k) row_size);
-      block = b;
-      place = p ∙ add_comm (row_size * k) x.ref_ptr.1;
-    }

@@ -20,20 +20,8 @@ use Rattle.element_sets.specs.declared.table.Split.{Split}
 use Rattle.std.specs.Prelude.{Err, None, Ok, Option, Result, Some}
 
 module _ (el : Elements) (buffer : List ℕ) (size : ℕ) where
-  pub put_refused : {r : Refusal} → checked el ≡ Err r → Err r ≡ putting el buffer size
-  unfolding putting
-  put_refused e = rw e
-
   module _ (passed : checked el ≡ Ok tt) where
-    pub put_broken : scanned buffer size el.epoch ≡ None → Err Table ≡ putting el buffer size
-    unfolding putting
-    put_broken e = rw (passed, e)
-
     module _ {earlier later : ℕ} (e : scanned buffer size el.epoch ≡ Some (split_at earlier later)) where
-      pub put_roomless : length buffer < end_with earlier later size → Err Room ≡ putting el buffer size
-      unfolding putting
-      put_roomless h = rw (passed, e, lt-ltb (length buffer) (end_with earlier later size) h)
-
       pub put_placed : end_with earlier later size ≤ length buffer → Ok (end_with earlier later size) ≡ putting el buffer size
       unfolding putting
       put_placed h = rw (passed, e, le-ltb (length buffer) (end_with earlier later size) h)

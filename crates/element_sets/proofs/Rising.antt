@@ -15,6 +15,7 @@ use borrow.Author.Tests.{ltb-true, ltb-false}
 use Rattle.integer.proofs.Order.{before_parts, up_to_parts, after_parts, parts_before, parts_up_to, parts_after}
 use Rattle.element_sets.specs.Table.{rows_in, epoch_at, is_table, is_table_in, up_to}
 use Rattle.element_sets.specs.Theorems.{LatestUpTo, NoneUpTo, Earliest, FoundAnswers}
+use Rattle.element_sets.proofs.Scans.{rising_among}
 use Rattle.element_sets.proofs.Finds.{answer_says}
 use Rattle.element_sets.proofs.Sound.{in_buffer, rises_at, few, is_up_to, is_after}
 use Rattle.element_sets.specs.declared.lookup.Row.TheVariants.{Past, Forecast}
@@ -25,12 +26,7 @@ module _ (table : List ℕ) (is : is_table table ≡ true) where
   rows = rows_in (length table)
 
   pub rising : (i j : ℕ) → i < j → j < rows → lt_z (epoch_at table i) (epoch_at table j) ≡ true
-  rising i zero l h = absurd (omega arith)
-  rising i (suc j) l h =
-      ⊎_elim
-      (λ (e : i ≡ j). subst (λ (n : ℕ). lt_z (epoch_at table n) (epoch_at table (suc j)) ≡ true) (sym e) (rises_at table is j h))
-      (λ (m : i < j). let a = before_parts (epoch_at table i) (epoch_at table j) (rising i j m (omega arith)) in let b = before_parts (epoch_at table j) (epoch_at table (suc j)) (rises_at table is j h) in parts_before (epoch_at table i) (epoch_at table (suc j)) (omega arith))
-      (eq-or-lt_of_le {n = i} {m = j} (omega arith))
+  rising = rising_among table rows (rises_at table is)
 
   pub not_falling : (i j : ℕ) → i ≤ j → j < rows → le_z (epoch_at table i) (epoch_at table j) ≡ true
   not_falling i j l h =

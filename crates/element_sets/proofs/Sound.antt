@@ -1,5 +1,5 @@
 -- What is known of a table that is accepted. Assumes nothing.
-use mathlib.Core.Path.{◌≡◌, refl, subst}
+use mathlib.Core.Path.{◌≡◌, refl, ap, subst}
 use Prim.Native.Nat.{ℕ, suc, ◌+◌, ◌*◌, ◌%◌, ◌≤◌, ◌<◌}
 use native.Mathlib.Omega.{arith}
 use mathlib.Core.Bool.{Bool, true, false, cond}
@@ -16,6 +16,7 @@ use Rattle.sequence.specs.Sequence.{leading}
 use Rattle.sequence.proofs.Sequences.{leading_le, leading_holds, leading_fails, leading_mono}
 use Rattle.elements.specs.Elements.{checked}
 use Rattle.element_sets.specs.Table.{row_size, rows_in, set_at, epoch_at, accepts, follows, keeps_at, is_table, is_table_in, before, up_to, scanned, split_at}
+use Rattle.element_sets.specs.declared.table.Split.{Split}
 use Rattle.element_sets.specs.Contract.{OneAtMost}
 use Rattle.std.specs.Prelude.{None, Some}
 
@@ -99,7 +100,10 @@ module _ (buffer : List ℕ) (size : ℕ) where
   module _ (time : ℤ) (earlier later : ℕ) where
     by : (t : Bool) → is_table_in buffer size ≡ t → cond t (Some (split_at (before (take size buffer) time) (up_to (take size buffer) time))) None ≡ Some (split_at earlier later)
         → Told buffer size time earlier later
-    by true is e = let p = in_buffer is in record { held = p.0; table = p.1; earlier_is = cc; later_is = cc }
+    by true is e =
+        let p = in_buffer is in
+        let same : split_at (before (take size buffer) time) (up_to (take size buffer) time) ≡ split_at earlier later = cc in
+        record { held = p.0; table = p.1; earlier_is = ap (λ (s : Split). s.earlier) same; later_is = ap (λ (s : Split). s.up_to) same }
     by false is e = let z : ◌≡◌ {A = ℕ} 0 1 = cc in absurd (omega arith)
 
     pub told : scanned buffer size time ≡ Some (split_at earlier later) → Told buffer size time earlier later

@@ -1,4 +1,4 @@
--- What going over a table tells. Assumes nothing.
+-- What a row's bytes tell. Assumes nothing.
 use mathlib.Core.Path.{◌≡◌, refl, sym, ap, ◌∙◌}
 use Prim.Native.Nat.{ℕ, zero, suc, ◌+◌, ◌*◌, ◌-◌, ◌<◌}
 use native.Mathlib.Nat.{add-zero, add_assoc}
@@ -12,8 +12,6 @@ use mir.Val.{to_z}
 use Rattle.endian.specs.LittleEndian.{le4, le8}
 use Rattle.elements_buffer.specs.Buffer.{elements_of}
 use Rattle.element_sets.specs.Table.{row_size, row_at, set_at, epoch_at, follows}
-
--- ---- a row
 
 module _ (table : List ℕ) (k : ℕ) where
   row_byte : (i j : ℕ) → i + j < row_size → get_or (row_at table k) (i + j) 0 ≡ get_or table (row_size * k + i + j) 0
@@ -33,13 +31,3 @@ module _ (table : List ℕ) (k : ℕ) where
   epoch_first =
       let low = rw (add-zero (row_size * k)) at (row_word 0 (omega arith)) in
       rw (low, row_word 4 (omega arith))
-
--- ---- a row behind the first
-
-pub follows_last : (table : List ℕ) (k : ℕ) → (k ≡ 0 → ⊥) → lt_z (epoch_at table (k - 1)) (epoch_at table k) ≡ follows table k
-unfolding follows
-follows_last table zero h = absurd (h refl)
-follows_last table (suc k) h = ap (λ (j : ℕ). lt_z (epoch_at table j) (epoch_at table (suc k))) (back k)
-  where
-    back : (k : ℕ) → suc k - 1 ≡ k
-    back k = omega arith

@@ -1,7 +1,6 @@
 -- The set for a time: document 01, "Tables of element sets", and refusals 21 and 23. Assumes nothing.
-use Rattle.std.specs.Prelude.{ℕ, ◌-◌, ◌*◌, cond, ◌&&◌, List, ltb, ℤ, take, Err, Ok, Result}
+use Rattle.std.specs.Prelude.{◌≡◌, ℕ, ◌-◌, ◌*◌, cond, ◌&&◌, List, ltb, ℤ, take, Err, Ok, Result}
 use Rattle.std.specs.Borrow.{Bor}
-use Rattle.refusal.specs.Numbers.{number_of}
 use Rattle.refusal.specs.declared.Refusal.TheVariants.{Table, NoSet}
 use Rattle.element_sets.specs.Table.{row_size, rows_in, is_table_in, up_to}
 use Rattle.element_sets.specs.Part.{PartOf}
@@ -21,14 +20,11 @@ finding past past_size forecast forecast_size time =
     (found_among (up_to (take past_size past) time) (rows_in forecast_size))
     (Err Table)
 
--- the number beside the answer
-abbrev pub refusal_of : Result Row Refusal → ℕ
-refusal_of (Ok (Past k)) = 0
-refusal_of (Ok (Forecast k)) = 0
-refusal_of (Err refusal) = number_of refusal
-
--- what is returned: the row where it stands in its table; where there is none, an empty part
-unfoldable pub RowIs : Result Row Refusal → Bor (List ℕ) → Bor (List ℕ) → Bor (List ℕ) → Type 0
-RowIs (Ok (Past k)) past forecast r = PartOf past (row_size * k) row_size r
-RowIs (Ok (Forecast k)) past forecast r = PartOf forecast (row_size * k) row_size r
-RowIs (Err refusal) past forecast r = PartOf past 0 0 r
+-- what is returned: the row where it stands in its table, or the refusal
+unfoldable pub RowIs : Result Row Refusal → Bor (List ℕ) → Bor (List ℕ) → Result (Bor (List ℕ)) Refusal → Type 0
+RowIs (Ok (Past k)) past forecast (Ok r) = PartOf past (row_size * k) row_size r
+RowIs (Ok (Forecast k)) past forecast (Ok r) = PartOf forecast (row_size * k) row_size r
+RowIs (Err refusal) past forecast (Err r) = r ≡ refusal
+RowIs (Ok (Past k)) past forecast (Err r) = ⊥
+RowIs (Ok (Forecast k)) past forecast (Err r) = ⊥
+RowIs (Err refusal) past forecast (Ok r) = ⊥

@@ -1,8 +1,9 @@
 // The set for a time, in one of two tables.
 ghost use Rattle.std.specs.Prelude.{◌≡◌};
-ghost use Rattle.element_sets.specs.Finding.{finding, refusal_of, RowIs};
+ghost use Rattle.element_sets.specs.Finding.{finding, RowIs};
 
 use crate::table;
+use elements_buffer::SIZE;
 use refusal::Refusal;
 
 // A row of one of the tables, by its number from 0.
@@ -28,13 +29,13 @@ pub fn locate(
     if 0 < in_past.up_to {
         return Ok(Row::Past(in_past.up_to - 1));
     }
-    if 52 <= forecast_size {
+    if SIZE <= forecast_size {
         return Ok(Row::Forecast(0));
     }
     Err(Refusal::NoSet)
 }
 
-// The row itself, in its table; where there is none, an empty part, and the refusal's number beside it.
+// The row itself, in its table.
 #[tactic(auto, unfolding(crate::specs::Finding::RowIs))]
 pub fn find<'a>(
     past: &'a [u8],
@@ -42,25 +43,12 @@ pub fn find<'a>(
     forecast: &'a [u8],
     forecast_size: usize,
     time: i64,
-    refusal: &mut u32,
-) -> &'a [u8]
-    ensures { (refusal.new ≡ refusal_of (finding past.now past_size forecast.now forecast_size time)) × RowIs (finding past.now past_size forecast.now forecast_size time) past.entry forecast.entry result }
+) -> Result<&'a [u8], Refusal>
+    ensures { RowIs (finding past.now past_size forecast.now forecast_size time) past.entry forecast.entry result }
 {
-    let found = locate(past, past_size, forecast, forecast_size, time);
-    match found {
-        Ok(Row::Past(k)) => {
-            *refusal = 0;
-            let at = 52 * k;
-            &past[at..at + 52]
-        }
-        Ok(Row::Forecast(k)) => {
-            *refusal = 0;
-            let at = 52 * k;
-            &forecast[at..at + 52]
-        }
-        Err(refused) => {
-            *refusal = refused.number();
-            &past[..0]
-        }
-    }
+    let found = locate(past, past_size, forecast, forecast_size, time)?;
+    Ok(match found {
+        Row::Past(k) => table::row(past, k),
+        Row::Forecast(k) => table::row(forecast, k),
+    })
 }

@@ -7,6 +7,8 @@ ghost use Rattle.elements_buffer.specs.Buffer.{elements_of, elements_bytes};
 
 use elements::Elements;
 
+pub const SIZE: usize = 52;
+
 // The elements at the start of some bytes. Its callers have found that there are as many.
 #[tactic(auto, unfolding(crate::specs::Buffer::elements_of))]
 pub fn read_elements(bytes: &[u8]) -> Elements
