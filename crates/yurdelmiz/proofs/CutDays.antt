@@ -33,13 +33,14 @@ use Rattle.elements_buffer.specs.Buffer.{elements_of}
 use Rattle.elements_buffer.proofs.ElementsBack.{elements_held}
 use Rattle.day_buffer.specs.State.{counts_in, day_of, day_bytes}
 use Rattle.day_buffer.proofs.DaysBack.{day_back}
-use Rattle.statuses.specs.Call.{Call, Result Unit RefusedAt as CallOutcome, call_of, BufferCall}
+use Rattle.statuses.specs.Call.{Call, Outcome as CallOutcome, call_of, BufferCall}
 use Rattle.yurdelmiz.specs.Calls.{label_outcome, day_outcome, label_call, read_outcome, read_call, open_outcome, open_call, step_outcome, packet_call, close_call}
 use Rattle.yurdelmiz.specs.CutDay.{takes, day_labels, day_called, AllEnd, labels_called, CutDay}
 use Rattle.statuses.proofs.Endings.{ends_given}
 use Rattle.yurdelmiz.proofs.AcceptedCalls.{Ending, accepted, BufferEnding, buffer_accepted}
 use Rattle.labelling.specs.declared.Labelled.{Labelled}
-use Rattle.std.specs.Prelude.{Err, Ok}
+use Rattle.refusal.specs.declared.RefusedAt.{RefusedAt}
+use Rattle.std.specs.Prelude.{Err, Ok, Result}
 
 -- ---- a state in its bytes
 

@@ -82,23 +82,31 @@ module _ (file out answer : List ℕ) (out_length : length out ≡ 24) (answer_l
   form_by : (form : Form) (c : Counts) → file_reading file ≡ Ok (contents_of form c) → le4 (whole file out).answer 20 ≡ trailer_size form
   form_by form c e = ap (λ (x : Call). le4 x.answer 20) (whole_by e) ∙ form_in_answer form c
 
-  held_by : (r : Result Contents RefusedAt) → file_reading file ≡ r → (whole file out).status ≡ 0 → le4 (whole file out).answer 20 ≡ 24
+  held_in : (form : Form) (c : Counts) → file_reading file ≡ Ok (contents_of form c) → le4 (whole file out).answer 20 ≡ 24
       → asked file answer ≡ record { status = 0; answer = bytes4 (le4 (whole file out).answer 16) }
   unfolding trailer_size stating counts_of
+  held_in Bytes16 c e f = absurd (omega (arith, sym (form_by Bytes16 c e) ∙ f))
+  held_in Bytes24 c e f =
+      let a = accepted_file file Bytes24 c e in
+      let t = trailer_says file _ Bytes24 c a.trailer in
+      let n = ap (λ (x : Call). le4 x.answer 16) (whole_by e) ∙ dark_test_in_answer Bytes24 c (omega (arith, t.placed.few, t.bounded.dark, t.bounded.dark_test)) in
+      asked_by (says.held c e ∙ sym (ap (λ (x : Counts). Ok (Some x.dark_test)) a.counts) ∙ ap (λ k. Ok (Some k)) (sym n))
+
+  held_by : (r : Result Contents RefusedAt) → file_reading file ≡ r → (whole file out).status ≡ 0 → le4 (whole file out).answer 20 ≡ 24
+      → asked file answer ≡ record { status = 0; answer = bytes4 (le4 (whole file out).answer 16) }
   held_by (Err error) e s f = absurd (omega (arith, sym (whole_status e) ∙ s, never_0 error.refusal))
-  held_by (Ok contents) e s f = absurd (omega (arith, sym (form_by contents.form contents.counts e) ∙ f))
-  held_by (Ok contents) e s f =
-      let a = accepted_file file contents.form contents.counts e in
-      let t = trailer_says file _ contents.form contents.counts a.trailer in
-      let n = ap (λ (x : Call). le4 x.answer 16) (whole_by e) ∙ dark_test_in_answer contents.form contents.counts (omega (arith, t.placed.few, t.bounded.dark, t.bounded.dark_test)) in
-      asked_by (says.held contents.counts e ∙ sym (ap (λ (x : Counts). Ok (Some x.dark_test)) a.counts) ∙ ap Ok (Some (sym n)))
+  held_by (Ok contents) e s f = held_in contents.form contents.counts e f
+
+  not_held_in : (form : Form) (c : Counts) → file_reading file ≡ Ok (contents_of form c) → le4 (whole file out).answer 20 ≡ 16
+      → asked file answer ≡ record { status = 0; answer = bytes4 not_held }
+  unfolding trailer_size
+  not_held_in Bytes24 c e f = absurd (omega (arith, sym (form_by Bytes24 c e) ∙ f))
+  not_held_in Bytes16 c e f = asked_by (says.is_not_held c e)
 
   not_held_by : (r : Result Contents RefusedAt) → file_reading file ≡ r → (whole file out).status ≡ 0 → le4 (whole file out).answer 20 ≡ 16
       → asked file answer ≡ record { status = 0; answer = bytes4 not_held }
-  unfolding trailer_size
   not_held_by (Err error) e s f = absurd (omega (arith, sym (whole_status e) ∙ s, never_0 error.refusal))
-  not_held_by (Ok contents) e s f = absurd (omega (arith, sym (form_by contents.form contents.counts e) ∙ f))
-  not_held_by (Ok contents) e s f = asked_by (says.is_not_held contents.counts e)
+  not_held_by (Ok contents) e s f = not_held_in contents.form contents.counts e f
 
   pub tail_of_file : TailOfFile file out answer
   tail_of_file =

@@ -26,7 +26,6 @@ use Rattle.packets.specs.Day.{opening_step}
 use Rattle.packets.specs.Packet.{packet_step, packet_output}
 use Rattle.packets.specs.Closing.{closing_step, closing_output}
 use Rattle.packets.specs.declared.Day.{Day}
-use Rattle.packets.specs.declared.Outcome.{Outcome as StepOutcome}
 use Rattle.elements_buffer.specs.Buffer.{elements_bytes, elements_of}
 use Rattle.buffers.specs.Answers.{anomaly_bytes, sun_bytes, state_bytes, read_bytes, add_bytes, salvage_bytes, found_bytes, not_held}
 use Rattle.statuses.specs.Faults.{fault_number, fault_place}
@@ -181,7 +180,7 @@ salvage_call body output answer =
     buffer_call_of (eqb (length answer) 12) (salvage_outcome (salvaging body (length output)) (salvaged_output body output)) output answer
 
 -- ---- yurdelmiz_open
-abbrev pub open_outcome : StepOutcome → Day → Outcome
+abbrev pub open_outcome : Result Unit RefusedAt → Day → Outcome
 open_outcome (Err error) d = refused (number_of error.refusal)
 open_outcome (Ok tt) d = given (day_bytes d)
 
@@ -191,7 +190,7 @@ open_call elements day =
     call_of (eqb (length elements) 52 && eqb (length day) 89) (open_outcome opened.outcome opened.day) day
 
 -- ---- yurdelmiz_packet
-abbrev pub step_outcome : StepOutcome → Day → List ℕ → BufferOutcome
+abbrev pub step_outcome : Result Unit RefusedAt → Day → List ℕ → BufferOutcome
 step_outcome (Err error) d after = rejected (status_at (number_of error.refusal) error.place)
 step_outcome (Ok tt) d after = written after (day_bytes d)
 

@@ -177,12 +177,11 @@ pub fn yurdelmiz_find_set(
     let found = element_sets::locate(past, past_size, forecast, forecast_size, time);
     match found {
         Err(refusal) => refusal.number(),
-        Ok(Row::Past(k)) => {
-            buffers::write_found(answer, 52 * k, PAST);
-            0
-        }
-        Ok(Row::Forecast(k)) => {
-            buffers::write_found(answer, 52 * k, FORECAST);
+        Ok(row) => {
+            match row {
+                Row::Past(k) => buffers::write_found(answer, 52 * k, PAST),
+                Row::Forecast(k) => buffers::write_found(answer, 52 * k, FORECAST),
+            }
             0
         }
     }
@@ -280,12 +279,8 @@ pub fn yurdelmiz_dark_test(tail: &[u8], size: u64, answer: &mut [u8]) -> u32
     let reading = label_file::read_tail(tail, size);
     match reading {
         Err(refusal) => refusal.number(),
-        Ok(None) => {
-            buffers::write_figure(answer, NOT_HELD);
-            0
-        }
-        Ok(Some(labels)) => {
-            buffers::write_figure(answer, labels);
+        Ok(labels) => {
+            buffers::write_figure(answer, labels.unwrap_or(NOT_HELD));
             0
         }
     }

@@ -28,15 +28,15 @@ added_is : (c : After-add-added) → let a = c.args in
     AddedTo (elements_of a.elements.now) a.buffer.now a.size a.telemetry.now c.add-added.new.buffer c.add-added.result
 added_is c = rw c.read_elements.ensures at c.add-added.ensures
 
-pub returns-in-Refused : goal.returns-in-Refused
+pub returns-in-Err : goal.returns-in-Err
 unfolding add_call
-returns-in-Refused c =
-    let a = added_is (goal.at.returns-in-Refused c).After-add-added in
-    let r = c.in-Refused.is in
-    ends_rejected _ _ _ _ (rw c.number.ensures at c.status_at.ensures) (unchanged a r) (lengths (goal.at.returns-in-Refused c).Else-answer-ne28) (add_outcome_lem a r)
+returns-in-Err c =
+    let a = added_is (goal.at.returns-in-Err c).After-add-added in
+    let r = c.in-Err.is in
+    ends_rejected _ _ _ _ (rw c.number.ensures at c.status_at.ensures) (unchanged a r) (lengths (goal.at.returns-in-Err c).Else-answer-ne28) (add_outcome_lem a r)
 
-pub returns-in-Labelled : goal.returns-in-Labelled
+pub returns-in-Ok : goal.returns-in-Ok
 unfolding add_call
-returns-in-Labelled c =
-    let a = added_is (goal.at.returns-in-Labelled c).After-add-added in
-    ends_written _ _ _ _ a.buffer_is c.write_adding.ensures (lengths (goal.at.returns-in-Labelled c).Else-answer-ne28) (add_outcome_lem a c.in-Labelled.is)
+returns-in-Ok c =
+    let a = added_is (goal.at.returns-in-Ok c).After-add-added in
+    ends_written _ _ _ _ a.buffer_is c.write_adding.ensures (lengths (goal.at.returns-in-Ok c).Else-answer-ne28) (add_outcome_lem a c.in-Ok.is)

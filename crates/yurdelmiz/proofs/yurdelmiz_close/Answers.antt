@@ -16,13 +16,13 @@ closed_is : (c : After-close_day-step) → let a = c.args in
     DayClosed (day_of a.day.now) a.output.now c.close_day-step.result.day c.close_day-step.new.output c.close_day-step.result.outcome
 closed_is c = rw c.read_day-before.ensures at c.close_day-step.ensures
 
-pub returns-in-Refused : goal.returns-in-Refused
+pub returns-in-Err : goal.returns-in-Err
 unfolding close_call
-returns-in-Refused c =
-    let e = c.in-Refused.is in
-    ends_rejected _ _ _ _ (rw c.number.ensures at c.status_at.ensures) (unchanged (closed_is (goal.at.returns-in-Refused c).After-close_day-step) e) (eq-eqb _ 89 c.if-day-ne89.false) (step_outcome_lem (closed_is (goal.at.returns-in-Refused c).After-close_day-step) e)
+returns-in-Err c =
+    let e = c.in-Err.is in
+    ends_rejected _ _ _ _ (rw c.number.ensures at c.status_at.ensures) (unchanged (closed_is (goal.at.returns-in-Err c).After-close_day-step) e) (eq-eqb _ 89 c.if-day-ne89.false) (step_outcome_lem (closed_is (goal.at.returns-in-Err c).After-close_day-step) e)
 
-pub returns-in-Accepted : goal.returns-in-Accepted
+pub returns-in-Ok : goal.returns-in-Ok
 unfolding close_call
-returns-in-Accepted c =
-    ends_written _ _ _ _ (closed_is (goal.at.returns-in-Accepted c).After-close_day-step).output_is c.write_day.ensures (eq-eqb _ 89 c.if-day-ne89.false) (step_outcome_lem (closed_is (goal.at.returns-in-Accepted c).After-close_day-step) c.in-Accepted.is)
+returns-in-Ok c =
+    ends_written _ _ _ _ (closed_is (goal.at.returns-in-Ok c).After-close_day-step).output_is c.write_day.ensures (eq-eqb _ 89 c.if-day-ne89.false) (step_outcome_lem (closed_is (goal.at.returns-in-Ok c).After-close_day-step) c.in-Ok.is)

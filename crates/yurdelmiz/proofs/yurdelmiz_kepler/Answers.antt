@@ -10,12 +10,12 @@ unfolding kepler_call
 returns-then-answer-ne8 c =
     bad_buffer _ _ _ (ne_eqb _ 8 c.if-answer-ne8.true)
 
-pub returns-in-Refused : goal.returns-in-Refused
+pub returns-in-Err : goal.returns-in-Err
 unfolding kepler_call
-returns-in-Refused c =
-    ends_refused _ _ _ c.number.ensures (eq-eqb _ 8 c.if-answer-ne8.false) (ap anomaly_outcome (sym c.solve-solution.ensures.is ∙ c.in-Refused.is))
+returns-in-Err c =
+    ends_refused _ _ _ c.number.ensures (eq-eqb _ 8 c.if-answer-ne8.false) (ap anomaly_outcome (sym c.solve-solution.ensures.is ∙ c.in-Err.is))
 
-pub returns-in-Solved : goal.returns-in-Solved
+pub returns-in-Ok : goal.returns-in-Ok
 unfolding kepler_call
-returns-in-Solved c =
-    ends_given _ _ _ c.write_anomaly.ensures (eq-eqb _ 8 c.if-answer-ne8.false) (ap anomaly_outcome (sym c.solve-solution.ensures.is ∙ c.in-Solved.is))
+returns-in-Ok c =
+    ends_given _ _ _ c.write_anomaly.ensures (eq-eqb _ 8 c.if-answer-ne8.false) (ap anomaly_outcome (sym c.solve-solution.ensures.is ∙ c.in-Ok.is))

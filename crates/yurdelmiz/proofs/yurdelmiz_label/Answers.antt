@@ -16,15 +16,15 @@ pub returns-then-elements-ne52 : goal.returns-then-elements-ne52
 unfolding label_call
 returns-then-elements-ne52 c = bad_buffer _ _ _ (ne_eqb _ 52 c.if-elements-ne52.true)
 
-pub returns-in-Refused : goal.returns-in-Refused
+pub returns-in-Err : goal.returns-in-Err
 unfolding label_call
-returns-in-Refused c =
-    let l = day_is (goal.at.returns-in-Refused c).After-label_day-labelled in
-    let r = c.in-Refused.is in
+returns-in-Err c =
+    let l = day_is (goal.at.returns-in-Err c).After-label_day-labelled in
+    let r = c.in-Err.is in
     rw (unchanged l r) (ends_refused _ _ _ (rw c.number.ensures at c.status_at.ensures) (eq-eqb _ 52 c.if-elements-ne52.false) (day_outcome_lem l r))
 
-pub returns-in-Labelled : goal.returns-in-Labelled
+pub returns-in-Ok : goal.returns-in-Ok
 unfolding label_call
-returns-in-Labelled c =
-    let l = day_is (goal.at.returns-in-Labelled c).After-label_day-labelled in
-    ends_given _ _ _ l.output_is (eq-eqb _ 52 c.if-elements-ne52.false) (day_outcome_lem l c.in-Labelled.is)
+returns-in-Ok c =
+    let l = day_is (goal.at.returns-in-Ok c).After-label_day-labelled in
+    ends_given _ _ _ l.output_is (eq-eqb _ 52 c.if-elements-ne52.false) (day_outcome_lem l c.in-Ok.is)

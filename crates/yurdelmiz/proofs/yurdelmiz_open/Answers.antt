@@ -30,12 +30,12 @@ opened c e =
     let is = c.open_day-step.ensures ∙ ap opening_step c.read_elements.ensures in
     sym (λ i. open_outcome (is i).outcome (is i).day) ∙ ap (λ (x : Result Unit RefusedAt). open_outcome x c.open_day-step.result.day) e
 
-pub returns-in-Refused : goal.returns-in-Refused
+pub returns-in-Err : goal.returns-in-Err
 unfolding open_call
-returns-in-Refused c =
-    ends_refused _ _ _ c.number.ensures (lengths (goal.at.returns-in-Refused c).Else-day-ne89) (opened (goal.at.returns-in-Refused c).After-open_day-step c.in-Refused.is)
+returns-in-Err c =
+    ends_refused _ _ _ c.number.ensures (lengths (goal.at.returns-in-Err c).Else-day-ne89) (opened (goal.at.returns-in-Err c).After-open_day-step c.in-Err.is)
 
-pub returns-in-Accepted : goal.returns-in-Accepted
+pub returns-in-Ok : goal.returns-in-Ok
 unfolding open_call
-returns-in-Accepted c =
-    ends_given _ _ _ c.write_day.ensures (lengths (goal.at.returns-in-Accepted c).Else-day-ne89) (opened (goal.at.returns-in-Accepted c).After-open_day-step c.in-Accepted.is)
+returns-in-Ok c =
+    ends_given _ _ _ c.write_day.ensures (lengths (goal.at.returns-in-Ok c).Else-day-ne89) (opened (goal.at.returns-in-Ok c).After-open_day-step c.in-Ok.is)

@@ -16,13 +16,13 @@ taken_is : (c : After-take_packet-step) → let a = c.args in
     PacketTaken (day_of a.day.now) a.packet.now a.output.now c.take_packet-step.result.day c.take_packet-step.new.output c.take_packet-step.result.outcome
 taken_is c = rw c.read_day-before.ensures at c.take_packet-step.ensures
 
-pub returns-in-Refused : goal.returns-in-Refused
+pub returns-in-Err : goal.returns-in-Err
 unfolding packet_call
-returns-in-Refused c =
-    let e = c.in-Refused.is in
-    ends_rejected _ _ _ _ (rw c.number.ensures at c.status_at.ensures) (unchanged (taken_is (goal.at.returns-in-Refused c).After-take_packet-step) e) (eq-eqb _ 89 c.if-day-ne89.false) (step_outcome_lem (taken_is (goal.at.returns-in-Refused c).After-take_packet-step) e)
+returns-in-Err c =
+    let e = c.in-Err.is in
+    ends_rejected _ _ _ _ (rw c.number.ensures at c.status_at.ensures) (unchanged (taken_is (goal.at.returns-in-Err c).After-take_packet-step) e) (eq-eqb _ 89 c.if-day-ne89.false) (step_outcome_lem (taken_is (goal.at.returns-in-Err c).After-take_packet-step) e)
 
-pub returns-in-Accepted : goal.returns-in-Accepted
+pub returns-in-Ok : goal.returns-in-Ok
 unfolding packet_call
-returns-in-Accepted c =
-    ends_written _ _ _ _ (taken_is (goal.at.returns-in-Accepted c).After-take_packet-step).output_is c.write_day.ensures (eq-eqb _ 89 c.if-day-ne89.false) (step_outcome_lem (taken_is (goal.at.returns-in-Accepted c).After-take_packet-step) c.in-Accepted.is)
+returns-in-Ok c =
+    ends_written _ _ _ _ (taken_is (goal.at.returns-in-Ok c).After-take_packet-step).output_is c.write_day.ensures (eq-eqb _ 89 c.if-day-ne89.false) (step_outcome_lem (taken_is (goal.at.returns-in-Ok c).After-take_packet-step) c.in-Ok.is)

@@ -48,10 +48,10 @@ module _ (c : After-position-placement) (s : State) (e : c.position-placement.re
   owed : StateOwes (elements c) (time c) s
   owed = subst (PlacementOwes (elements c) (time c)) e (placed_at c).owes
 
-earth_fixed_is : (c : After-earth_fixed-earth_fixed) → c.earth_fixed-earth_fixed.result ≡ earth_fixed_at c.in-Placed.state.position (time (goal.at.After-earth_fixed-earth_fixed c).After-position-placement)
+earth_fixed_is : (c : After-earth_fixed-earth_fixed) → c.earth_fixed-earth_fixed.result ≡ earth_fixed_at c.in-Ok.state.position (time (goal.at.After-earth_fixed-earth_fixed c).After-position-placement)
 unfolding earth_fixed_at
 earth_fixed_is c =
-    let p = c.in-Placed.state.position in
+    let p = c.in-Ok.state.position in
     let sun = rw (to_z-of_z c.ranges.time) at c.sun_at-sun.ensures.is in
     c.earth_fixed-earth_fixed.ensures ∙ ap (λ (s : Sun). earth_fixed_of p s.greenwich_hour_angle) sun
 
@@ -68,24 +68,24 @@ returns-then-answer-ne68 c =
 
 pub sun_at-sun-requires : goal.sun_at-sun-requires
 sun_at-sun-requires c =
-    rw (to_z-of_z c.ranges.time) (time_in_range _ _ _ (given (goal.at.sun_at-sun-requires c).After-position-placement _ c.in-Placed.is))
+    rw (to_z-of_z c.ranges.time) (time_in_range _ _ _ (given (goal.at.sun_at-sun-requires c).After-position-placement _ c.in-Ok.is))
 
 pub earth_fixed-earth_fixed-requires : goal.earth_fixed-earth_fixed-requires
 earth_fixed-earth_fixed-requires c =
-    turnable (owed (goal.at.earth_fixed-earth_fixed-requires c).After-position-placement _ c.in-Placed.is).box
+    turnable (owed (goal.at.earth_fixed-earth_fixed-requires c).After-position-placement _ c.in-Ok.is).box
 
 pub write_state-requires : goal.write_state-requires
 write_state-requires c =
-    let e = c.in-Placed.is in
+    let e = c.in-Ok.is in
     (search rules, radius_small _ _ _ (given (goal.at.write_state-requires c).After-position-placement _ e) (owed (goal.at.write_state-requires c).After-position-placement _ e).radius_between)
 
-pub returns-in-Refused : goal.returns-in-Refused
+pub returns-in-Err : goal.returns-in-Err
 unfolding position_call
-returns-in-Refused c =
-    ends_refused _ _ _ c.number.ensures (lengths (goal.at.returns-in-Refused c).After-position-placement) (outcome_is (goal.at.returns-in-Refused c).After-position-placement c.in-Refused.is)
+returns-in-Err c =
+    ends_refused _ _ _ c.number.ensures (lengths (goal.at.returns-in-Err c).After-position-placement) (outcome_is (goal.at.returns-in-Err c).After-position-placement c.in-Err.is)
 
-pub returns-in-Placed : goal.returns-in-Placed
+pub returns-in-Ok : goal.returns-in-Ok
 unfolding position_call
-returns-in-Placed c =
-    let bytes_are = c.write_state.ensures ∙ ap (state_bytes c.in-Placed.state) (earth_fixed_is (goal.at.returns-in-Placed c).After-earth_fixed-earth_fixed) in
-    ends_given _ _ _ bytes_are (lengths (goal.at.returns-in-Placed c).After-position-placement) (outcome_is (goal.at.returns-in-Placed c).After-position-placement c.in-Placed.is)
+returns-in-Ok c =
+    let bytes_are = c.write_state.ensures ∙ ap (state_bytes c.in-Ok.state) (earth_fixed_is (goal.at.returns-in-Ok c).After-earth_fixed-earth_fixed) in
+    ends_given _ _ _ bytes_are (lengths (goal.at.returns-in-Ok c).After-position-placement) (outcome_is (goal.at.returns-in-Ok c).After-position-placement c.in-Ok.is)

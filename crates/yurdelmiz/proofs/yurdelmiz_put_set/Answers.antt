@@ -12,7 +12,7 @@ use Rattle.statuses.proofs.Endings.{bad_buffers, ends_rejected, ends_written}
 use Rattle.yurdelmiz.proofs.yurdelmiz_put_set.Goals as goal
 use Rattle.yurdelmiz.proofs.yurdelmiz_put_set.Goals.{After-put-put, Else-room-ne8}
 use Rattle.refusal.specs.declared.Refusal.{Refusal}
-use Rattle.std.specs.Prelude.{Result}
+use Rattle.std.specs.Prelude.{ℕ, Result}
 
 -- both lengths are the header's
 lengths : (c : Else-room-ne8) → let a = c.args in (eqb (length a.elements.now) 52 && eqb (length a.answer.now) 8) ≡ true
@@ -39,14 +39,14 @@ pub returns-then-room-ne8 : goal.returns-then-room-ne8
 unfolding put_set_call
 returns-then-room-ne8 c = bad_buffers _ _ _ _ (rw (eq-eqb _ 52 c.if-elements-ne52.false, ne_eqb _ 8 c.if-room-ne8.true))
 
-pub returns-in-Refused : goal.returns-in-Refused
+pub returns-in-Err : goal.returns-in-Err
 unfolding put_set_call
-returns-in-Refused c =
-    let r = c.in-Refused.is in
-    ends_rejected _ _ _ _ c.number.ensures (after (goal.at.returns-in-Refused c).After-put-put _ r) (lengths (goal.at.returns-in-Refused c).Else-room-ne8) (outcome (goal.at.returns-in-Refused c).After-put-put _ r)
+returns-in-Err c =
+    let r = c.in-Err.is in
+    ends_rejected _ _ _ _ c.number.ensures (after (goal.at.returns-in-Err c).After-put-put _ r) (lengths (goal.at.returns-in-Err c).Else-room-ne8) (outcome (goal.at.returns-in-Err c).After-put-put _ r)
 
-pub returns-in-Put : goal.returns-in-Put
+pub returns-in-Ok : goal.returns-in-Ok
 unfolding put_set_call
-returns-in-Put c =
-    let r = c.in-Put.is in
-    ends_written _ _ _ _ (after (goal.at.returns-in-Put c).After-put-put _ r) c.write_size.ensures (lengths (goal.at.returns-in-Put c).Else-room-ne8) (outcome (goal.at.returns-in-Put c).After-put-put _ r)
+returns-in-Ok c =
+    let r = c.in-Ok.is in
+    ends_written _ _ _ _ (after (goal.at.returns-in-Ok c).After-put-put _ r) c.write_size.ensures (lengths (goal.at.returns-in-Ok c).Else-room-ne8) (outcome (goal.at.returns-in-Ok c).After-put-put _ r)

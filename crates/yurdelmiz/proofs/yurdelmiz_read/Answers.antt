@@ -9,12 +9,12 @@ pub returns-then-answer-ne24 : goal.returns-then-answer-ne24
 unfolding read_call
 returns-then-answer-ne24 c = bad_buffer _ _ _ (ne_eqb _ 24 c.if-answer-ne24.true)
 
-pub returns-in-Refused : goal.returns-in-Refused
+pub returns-in-Err : goal.returns-in-Err
 unfolding read_call
-returns-in-Refused c =
-    ends_refused _ _ _ (rw c.number.ensures at c.status_at.ensures) (eq-eqb _ 24 c.if-answer-ne24.false) (ap read_outcome (sym c.read-reading.ensures ∙ c.in-Refused.is))
+returns-in-Err c =
+    ends_refused _ _ _ (rw c.number.ensures at c.status_at.ensures) (eq-eqb _ 24 c.if-answer-ne24.false) (ap read_outcome (sym c.read-reading.ensures ∙ c.in-Err.is))
 
-pub returns-in-Accepted : goal.returns-in-Accepted
+pub returns-in-Ok : goal.returns-in-Ok
 unfolding read_call
-returns-in-Accepted c =
-    ends_given _ _ _ c.write_reading.ensures (eq-eqb _ 24 c.if-answer-ne24.false) (ap read_outcome (sym c.read-reading.ensures ∙ c.in-Accepted.is))
+returns-in-Ok c =
+    ends_given _ _ _ c.write_reading.ensures (eq-eqb _ 24 c.if-answer-ne24.false) (ap read_outcome (sym c.read-reading.ensures ∙ c.in-Ok.is))

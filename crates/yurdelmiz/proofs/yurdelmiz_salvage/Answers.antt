@@ -9,15 +9,15 @@ pub returns-then-answer-ne12 : goal.returns-then-answer-ne12
 unfolding salvage_call
 returns-then-answer-ne12 c = bad_buffers _ _ _ _ (ne_eqb _ 12 c.if-answer-ne12.true)
 
-pub returns-in-Refused : goal.returns-in-Refused
+pub returns-in-Err : goal.returns-in-Err
 unfolding salvage_call
-returns-in-Refused c =
+returns-in-Err c =
     let s = c.keep_labels-salvaged.ensures in
-    let r = c.in-Refused.is in
+    let r = c.in-Err.is in
     ends_rejected _ _ _ _ c.number.ensures (unchanged s r) (eq-eqb _ 12 c.if-answer-ne12.false) (salvage_outcome_lem s r)
 
-pub returns-in-Kept : goal.returns-in-Kept
+pub returns-in-Ok : goal.returns-in-Ok
 unfolding salvage_call
-returns-in-Kept c =
+returns-in-Ok c =
     let s = c.keep_labels-salvaged.ensures in
-    ends_written _ _ _ _ s.output_is c.write_salvage.ensures (eq-eqb _ 12 c.if-answer-ne12.false) (salvage_outcome_lem s c.in-Kept.is)
+    ends_written _ _ _ _ s.output_is c.write_salvage.ensures (eq-eqb _ 12 c.if-answer-ne12.false) (salvage_outcome_lem s c.in-Ok.is)

@@ -15,12 +15,12 @@ returns-then-figures-ne48 c = bad_buffer _ _ _ (ne_eqb _ 48 c.if-figures-ne48.tr
 scaled_is : (c : After-add_file-scaled) → let a = c.args in c.add_file-scaled.result ≡ scaling (figures_in a.figures.now) a.file.now a.size
 scaled_is c = rw c.read_figures-before.ensures at c.add_file-scaled.ensures
 
-pub returns-in-Refused : goal.returns-in-Refused
+pub returns-in-Err : goal.returns-in-Err
 unfolding scale_call
-returns-in-Refused c =
-    ends_refused _ _ _ (rw c.number.ensures at c.status_at.ensures) (eq-eqb _ 48 c.if-figures-ne48.false) (ap scale_outcome (sym (scaled_is (goal.at.returns-in-Refused c).After-add_file-scaled) ∙ c.in-Refused.is))
+returns-in-Err c =
+    ends_refused _ _ _ (rw c.number.ensures at c.status_at.ensures) (eq-eqb _ 48 c.if-figures-ne48.false) (ap scale_outcome (sym (scaled_is (goal.at.returns-in-Err c).After-add_file-scaled) ∙ c.in-Err.is))
 
-pub returns-in-Added : goal.returns-in-Added
+pub returns-in-Ok : goal.returns-in-Ok
 unfolding scale_call
-returns-in-Added c =
-    ends_given _ _ _ c.write_figures.ensures (eq-eqb _ 48 c.if-figures-ne48.false) (ap scale_outcome (sym (scaled_is (goal.at.returns-in-Added c).After-add_file-scaled) ∙ c.in-Added.is))
+returns-in-Ok c =
+    ends_given _ _ _ c.write_figures.ensures (eq-eqb _ 48 c.if-figures-ne48.false) (ap scale_outcome (sym (scaled_is (goal.at.returns-in-Ok c).After-add_file-scaled) ∙ c.in-Ok.is))

@@ -21,12 +21,12 @@ pub returns-then-answer-ne1 : goal.returns-then-answer-ne1
 unfolding shade_call
 returns-then-answer-ne1 c = bad_buffer _ _ _ (ne_eqb _ 1 c.if-answer-ne1.true)
 
-pub returns-in-Refused : goal.returns-in-Refused
+pub returns-in-Err : goal.returns-in-Err
 unfolding shade_call
-returns-in-Refused c =
-    ends_refused _ _ _ c.number.ensures (eq-eqb _ 1 c.if-answer-ne1.false) (ap shade_outcome (sym (shaded_is (goal.at.returns-in-Refused c).After-shade_test-shaded) ∙ c.in-Refused.is))
+returns-in-Err c =
+    ends_refused _ _ _ c.number.ensures (eq-eqb _ 1 c.if-answer-ne1.false) (ap shade_outcome (sym (shaded_is (goal.at.returns-in-Err c).After-shade_test-shaded) ∙ c.in-Err.is))
 
-pub returns-in-Shaded : goal.returns-in-Shaded
+pub returns-in-Ok : goal.returns-in-Ok
 unfolding shade_call
-returns-in-Shaded c =
-    ends_given _ _ _ (over_all c.args.answer.now (c.code.result ∷ []) c.if-answer-ne1.false ∙ ap (λ (v : ℕ). v ∷ []) c.code.ensures) (eq-eqb _ 1 c.if-answer-ne1.false) (ap shade_outcome (sym (shaded_is (goal.at.returns-in-Shaded c).After-shade_test-shaded) ∙ c.in-Shaded.is))
+returns-in-Ok c =
+    ends_given _ _ _ (over_all c.args.answer.now (c.code.result ∷ []) c.if-answer-ne1.false ∙ ap (λ (v : ℕ). v ∷ []) c.code.ensures) (eq-eqb _ 1 c.if-answer-ne1.false) (ap shade_outcome (sym (shaded_is (goal.at.returns-in-Ok c).After-shade_test-shaded) ∙ c.in-Ok.is))

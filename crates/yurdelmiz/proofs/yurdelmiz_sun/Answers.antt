@@ -18,14 +18,14 @@ unfolding sun_call
 returns-then-answer-ne28 c = bad_buffer _ _ _ (ne_eqb _ 28 c.if-answer-ne28.true)
 
 pub write_sun-requires : goal.write_sun-requires
-write_sun-requires c = (search rules, subst DirectionWithinOne c.in-Found.is c.find-found.ensures.small)
+write_sun-requires c = (search rules, subst DirectionWithinOne c.in-Ok.is c.find-found.ensures.small)
 
-pub returns-in-Refused : goal.returns-in-Refused
+pub returns-in-Err : goal.returns-in-Err
 unfolding sun_call
-returns-in-Refused c =
-    ends_refused _ _ _ c.number.ensures (eq-eqb _ 28 c.if-answer-ne28.false) (ap sun_outcome (sym (found_is (goal.at.returns-in-Refused c).After-find-found) ∙ c.in-Refused.is))
+returns-in-Err c =
+    ends_refused _ _ _ c.number.ensures (eq-eqb _ 28 c.if-answer-ne28.false) (ap sun_outcome (sym (found_is (goal.at.returns-in-Err c).After-find-found) ∙ c.in-Err.is))
 
-pub returns-in-Found : goal.returns-in-Found
+pub returns-in-Ok : goal.returns-in-Ok
 unfolding sun_call
-returns-in-Found c =
-    ends_given _ _ _ c.write_sun.ensures (eq-eqb _ 28 c.if-answer-ne28.false) (ap sun_outcome (sym (found_is (goal.at.returns-in-Found c).After-find-found) ∙ c.in-Found.is))
+returns-in-Ok c =
+    ends_given _ _ _ c.write_sun.ensures (eq-eqb _ 28 c.if-answer-ne28.false) (ap sun_outcome (sym (found_is (goal.at.returns-in-Ok c).After-find-found) ∙ c.in-Ok.is))

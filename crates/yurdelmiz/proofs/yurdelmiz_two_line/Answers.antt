@@ -19,13 +19,13 @@ pub returns-then-answer-ne52 : goal.returns-then-answer-ne52
 unfolding two_line_call
 returns-then-answer-ne52 c = bad_buffer _ _ _ (ne_eqb _ 52 c.if-answer-ne52.true)
 
-pub returns-in-Refused : goal.returns-in-Refused
+pub returns-in-Err : goal.returns-in-Err
 unfolding two_line_call
-returns-in-Refused c =
-    ends_refused _ _ _ (rw c.number.ensures at c.status_at.ensures) (eq-eqb _ 52 c.if-answer-ne52.false) (ap two_line_outcome (sym (read_is (goal.at.returns-in-Refused c).After-read-reading) ∙ c.in-Refused.is))
+returns-in-Err c =
+    ends_refused _ _ _ (rw c.number.ensures at c.status_at.ensures) (eq-eqb _ 52 c.if-answer-ne52.false) (ap two_line_outcome (sym (read_is (goal.at.returns-in-Err c).After-read-reading) ∙ c.in-Err.is))
 
-pub returns-in-Taken : goal.returns-in-Taken
+pub returns-in-Ok : goal.returns-in-Ok
 unfolding two_line_call elements_bytes words bytes8 bytes4
-returns-in-Taken c =
-    let el = c.in-Taken.elements in
-    ends_given _ _ _ (c.write_elements.ensures ∙ over_all c.args.answer.now (elements_bytes el) c.if-answer-ne52.false) (eq-eqb _ 52 c.if-answer-ne52.false) (ap two_line_outcome (sym (read_is (goal.at.returns-in-Taken c).After-read-reading) ∙ c.in-Taken.is))
+returns-in-Ok c =
+    let el = c.in-Ok.elements in
+    ends_given _ _ _ (c.write_elements.ensures ∙ over_all c.args.answer.now (elements_bytes el) c.if-answer-ne52.false) (eq-eqb _ 52 c.if-answer-ne52.false) (ap two_line_outcome (sym (read_is (goal.at.returns-in-Ok c).After-read-reading) ∙ c.in-Ok.is))
