@@ -63,10 +63,10 @@ pub fn bits_of_i64(x: i64) -> u64
     x.cast_unsigned()
 }
 
-pub fn bits_of_i32(x: i32) -> u32
-    ensures { result ≡ of_z w32 x }
+pub fn bits_of_i32(n: i32) -> u32
+    ensures { result ≡ of_z w32 n }
 {
-    x.cast_unsigned()
+    n.cast_unsigned()
 }
 
 // The number whose bits in two's complement are b.
@@ -76,10 +76,10 @@ pub fn i64_of_bits(b: u64) -> i64
     b.cast_signed()
 }
 
-pub fn i32_of_bits(b: u32) -> i32
-    ensures { result ≡ to_z w32 b }
+pub fn i32_of_bits(word: u32) -> i32
+    ensures { result ≡ to_z w32 word }
 {
-    b.cast_signed()
+    word.cast_signed()
 }
 
 // The whole square root of a number's highest bits, and what the root's square leaves of them.
