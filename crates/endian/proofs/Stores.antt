@@ -5,7 +5,11 @@ use native.Mathlib.Nat.{add-zero, add-suc, suc-add}
 use native.Mathlib.Omega.{arith}
 use mathlib.Core.List.{List, [], ◌∷◌, ◌++◌, append-nil}
 use lib.ListN.{length, get_or, set, take, drop, length-drop, take-append-drop, drop_of_length-le}
-use lib.Seq.{sets, sets-eq, set_comm, get_or-set_other, take-take, length-take-le}
+use lib.Seq.{sets, sets-eq, set_comm, get_or-set_other, take-take, take_all, length-take-le}
+use mir.Syntax.{w32, w64}
+use borrow.Rule.Slice.PartMut.{put_mid}
+use Rattle.std.specs.Int.{to_le_bytes}
+use Rattle.std.proofs.lemmas.Slice.{put_mid-paste}
 use Rattle.endian.specs.LittleEndian.{bytes4, bytes8}
 
 -- a run after another is one run
@@ -37,6 +41,44 @@ length_bytes4 v = refl
 pub then8 : (l m n : List ℕ) (at v : ℕ) → m ≡ sets l at (bytes4 (v % 4294967296)) → n ≡ sets m (at + 4) (bytes4 (v / 4294967296)) → n ≡ sets l at (bytes8 v)
 unfolding bytes8
 then8 l m n at v p q = then l m n at 4 (bytes4 (v % 4294967296)) (bytes4 (v / 4294967296)) (length_bytes4 _) p q
+
+-- a part of a buffer copied over
+pub copied : (l ys zs : List ℕ) (at k : ℕ) → ys ≡ zs → length ys ≡ length (take k (drop at l)) → at + k ≤ length l → put_mid at k l ys ≡ sets l at zs
+copied l ys zs at k e h f =
+    let long : k ≡ length zs = omega (arith, ap length e, length-drop at l, length-take-le k (drop at l) (omega (arith, length-drop at l))) in
+    put_mid-paste at k l ys zs (length zs) e (sym long) refl
+    ∙ rw (take_all (length zs) zs (omega arith)) (sym (sets-eq zs l at (omega arith)))
+
+-- std's words for the same bytes
+pub bytes4_is : (v : ℕ) → bytes4 v ≡ to_le_bytes w32 v
+unfolding bytes4
+bytes4_is v = λ i. v % 256 ∷ v / 256 % 256 ∷ third i ∷ fourth i ∷ []
+  where
+    third : v / 256 / 256 % 256 ≡ v / 65_536 % 256
+    third = omega arith
+    fourth : v / 256 / 256 / 256 % 256 ≡ v / 16_777_216 % 256
+    fourth = omega arith
+
+pub bytes8_is : (v : ℕ) → bytes8 v ≡ to_le_bytes w64 v
+unfolding bytes8 bytes4
+bytes8_is v = λ i. first i ∷ second i ∷ third i ∷ fourth i ∷ fifth i ∷ sixth i ∷ seventh i ∷ eighth i ∷ []
+  where
+    first : v % 4_294_967_296 % 256 ≡ v % 256
+    first = omega arith
+    second : v % 4_294_967_296 / 256 % 256 ≡ v / 256 % 256
+    second = omega arith
+    third : v % 4_294_967_296 / 256 / 256 % 256 ≡ v / 65_536 % 256
+    third = omega arith
+    fourth : v % 4_294_967_296 / 256 / 256 / 256 % 256 ≡ v / 16_777_216 % 256
+    fourth = omega arith
+    fifth : v / 4_294_967_296 % 256 ≡ v / 4_294_967_296 % 256
+    fifth = refl
+    sixth : v / 4_294_967_296 / 256 % 256 ≡ v / 1_099_511_627_776 % 256
+    sixth = omega arith
+    seventh : v / 4_294_967_296 / 256 / 256 % 256 ≡ v / 281_474_976_710_656 % 256
+    seventh = omega arith
+    eighth : v / 4_294_967_296 / 256 / 256 / 256 % 256 ≡ v / 72_057_594_037_927_936 % 256
+    eighth = omega arith
 
 -- bytes over the whole of a buffer
 pub over_all : (l bs : List ℕ) → length l ≡ length bs → sets l 0 bs ≡ bs
