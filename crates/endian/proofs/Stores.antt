@@ -25,22 +25,9 @@ then l m n at k a b e p q =
     q ∙ ap (λ (j : List ℕ). sets j (at + k) b) p ∙ ap (λ (j : ℕ). sets (sets l at a) (at + j) b) (sym e)
     ∙ sets_append l at a b
 
--- four stores of code are a run
-pub sets4 : (l : List ℕ) (at a b c d : ℕ) → set (set (set (set l at a) (at + 1) b) (at + 2) c) (at + 3) d ≡ sets l at (a ∷ b ∷ c ∷ d ∷ [])
-sets4 l at a b c d =
-    let e1 : at + 1 ≡ suc at = omega arith in
-    let e2 : at + 2 ≡ suc (suc at) = omega arith in
-    let e3 : at + 3 ≡ suc (suc (suc at)) = omega arith in
-    rw (e1, e2, e3)
-
 pub length_bytes4 : (v : ℕ) → length (bytes4 v) ≡ 4
 unfolding bytes4
 length_bytes4 v = refl
-
--- two runs of four are the run of eight
-pub then8 : (l m n : List ℕ) (at v : ℕ) → m ≡ sets l at (bytes4 (v % 4294967296)) → n ≡ sets m (at + 4) (bytes4 (v / 4294967296)) → n ≡ sets l at (bytes8 v)
-unfolding bytes8
-then8 l m n at v p q = then l m n at 4 (bytes4 (v % 4294967296)) (bytes4 (v / 4294967296)) (length_bytes4 _) p q
 
 -- a part of a buffer copied over
 pub copied : (l ys zs : List ℕ) (at k : ℕ) → ys ≡ zs → length ys ≡ length (take k (drop at l)) → at + k ≤ length l → put_mid at k l ys ≡ sets l at zs
@@ -56,6 +43,7 @@ bytes4_is v = λ i. v % 256 ∷ v / 256 % 256 ∷ third i ∷ fourth i ∷ []
   where
     third : v / 256 / 256 % 256 ≡ v / 65_536 % 256
     third = omega arith
+
     fourth : v / 256 / 256 / 256 % 256 ≡ v / 16_777_216 % 256
     fourth = omega arith
 
@@ -65,18 +53,25 @@ bytes8_is v = λ i. first i ∷ second i ∷ third i ∷ fourth i ∷ fifth i �
   where
     first : v % 4_294_967_296 % 256 ≡ v % 256
     first = omega arith
+
     second : v % 4_294_967_296 / 256 % 256 ≡ v / 256 % 256
     second = omega arith
+
     third : v % 4_294_967_296 / 256 / 256 % 256 ≡ v / 65_536 % 256
     third = omega arith
+
     fourth : v % 4_294_967_296 / 256 / 256 / 256 % 256 ≡ v / 16_777_216 % 256
     fourth = omega arith
+
     fifth : v / 4_294_967_296 % 256 ≡ v / 4_294_967_296 % 256
     fifth = refl
+
     sixth : v / 4_294_967_296 / 256 % 256 ≡ v / 1_099_511_627_776 % 256
     sixth = omega arith
+
     seventh : v / 4_294_967_296 / 256 / 256 % 256 ≡ v / 281_474_976_710_656 % 256
     seventh = omega arith
+
     eighth : v / 4_294_967_296 / 256 / 256 / 256 % 256 ≡ v / 72_057_594_037_927_936 % 256
     eighth = omega arith
 

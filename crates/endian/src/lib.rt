@@ -43,15 +43,6 @@ fn array_at<const N: usize>(bytes: &[u8], at: usize) -> [u8; N]
     array
 }
 
-// Bytes one after another.
-#[tactic(auto, using(crate::proofs::Stores::copied))]
-fn write_array<const N: usize>(out: &mut [u8], at: usize, array: [u8; N])
-    requires { at + N ≤ length out.old }
-    ensures { out.new ≡ sets out.old at array.entry }
-{
-    out[at..at + N].copy_from_slice(&array);
-}
-
 impl LittleEndian for u32 {
     ghost size = { 4 };
 
@@ -67,9 +58,9 @@ impl LittleEndian for u32 {
         u32::from_le_bytes(array_at(bytes, at))
     }
 
-    #[tactic(auto, using(crate::proofs::Stores::bytes4_is))]
+    #[tactic(auto, using(crate::proofs::Stores::copied, crate::proofs::Stores::bytes4_is))]
     fn write(self, out: &mut [u8], at: usize) {
-        write_array(out, at, self.to_le_bytes());
+        out[at..at + 4].copy_from_slice(&self.to_le_bytes());
     }
 }
 
@@ -85,12 +76,11 @@ impl LittleEndian for i32 {
     ghost laws = { laws_i32 };
 
     fn read(bytes: &[u8], at: usize) -> i32 {
-        i32::from_le_bytes(array_at(bytes, at))
+        u32::read(bytes, at).cast_signed()
     }
 
-    #[tactic(auto, using(crate::proofs::Stores::bytes4_is))]
     fn write(self, out: &mut [u8], at: usize) {
-        write_array(out, at, self.to_le_bytes());
+        self.cast_unsigned().write(out, at);
     }
 }
 
@@ -109,9 +99,9 @@ impl LittleEndian for u64 {
         u64::from_le_bytes(array_at(bytes, at))
     }
 
-    #[tactic(auto, using(crate::proofs::Stores::bytes8_is))]
+    #[tactic(auto, using(crate::proofs::Stores::copied, crate::proofs::Stores::bytes8_is))]
     fn write(self, out: &mut [u8], at: usize) {
-        write_array(out, at, self.to_le_bytes());
+        out[at..at + 8].copy_from_slice(&self.to_le_bytes());
     }
 }
 
@@ -127,12 +117,11 @@ impl LittleEndian for i64 {
     ghost laws = { laws_i64 };
 
     fn read(bytes: &[u8], at: usize) -> i64 {
-        i64::from_le_bytes(array_at(bytes, at))
+        u64::read(bytes, at).cast_signed()
     }
 
-    #[tactic(auto, using(crate::proofs::Stores::bytes8_is))]
     fn write(self, out: &mut [u8], at: usize) {
-        write_array(out, at, self.to_le_bytes());
+        self.cast_unsigned().write(out, at);
     }
 }
 
@@ -164,12 +153,12 @@ pub fn read_i64(bytes: &[u8], at: usize) -> i64
     i64::read(bytes, at)
 }
 
-// Four bytes one after another.
-pub fn write_four(out: &mut [u8], at: usize, a: u8, b: u8, c: u8, d: u8)
+#[tactic(auto, using(crate::proofs::Stores::copied))]
+pub fn write_four(out: &mut [u8], at: usize, four: [u8; 4])
     requires { at + 4 ≤ length out.old }
-    ensures { out.new ≡ sets out.old at (a ∷ b ∷ c ∷ d ∷ []) }
+    ensures { out.new ≡ sets out.old at four }
 {
-    write_array(out, at, [a, b, c, d]);
+    out[at..at + 4].copy_from_slice(&four);
 }
 
 pub fn write_u32(out: &mut [u8], at: usize, v: u32)
