@@ -1,6 +1,6 @@
 -- Runs of bytes stored one after another. Assumes nothing.
 use mathlib.Core.Path.{◌≡◌, refl, sym, ap, ◌∙◌}
-use Prim.Native.Nat.{ℕ, suc, ◌+◌, ◌/◌, ◌%◌, ◌≤◌, ◌<◌}
+use Prim.Native.Nat.{ℕ, suc, ◌+◌, ◌≤◌, ◌<◌}
 use native.Mathlib.Nat.{add-zero, add-suc, suc-add}
 use native.Mathlib.Omega.{arith}
 use mathlib.Core.List.{List, [], ◌∷◌, ◌++◌, append-nil}
@@ -39,41 +39,11 @@ copied l ys zs at k e h f =
 -- std's words for the same bytes
 pub bytes4_is : (v : ℕ) → bytes4 v ≡ to_le_bytes w32 v
 unfolding bytes4
-bytes4_is v = λ i. v % 256 ∷ v / 256 % 256 ∷ third i ∷ fourth i ∷ []
-  where
-    third : v / 256 / 256 % 256 ≡ v / 65_536 % 256
-    third = omega arith
-
-    fourth : v / 256 / 256 / 256 % 256 ≡ v / 16_777_216 % 256
-    fourth = omega arith
+bytes4_is v = grind arith
 
 pub bytes8_is : (v : ℕ) → bytes8 v ≡ to_le_bytes w64 v
 unfolding bytes8 bytes4
-bytes8_is v = λ i. first i ∷ second i ∷ third i ∷ fourth i ∷ fifth i ∷ sixth i ∷ seventh i ∷ eighth i ∷ []
-  where
-    first : v % 4_294_967_296 % 256 ≡ v % 256
-    first = omega arith
-
-    second : v % 4_294_967_296 / 256 % 256 ≡ v / 256 % 256
-    second = omega arith
-
-    third : v % 4_294_967_296 / 256 / 256 % 256 ≡ v / 65_536 % 256
-    third = omega arith
-
-    fourth : v % 4_294_967_296 / 256 / 256 / 256 % 256 ≡ v / 16_777_216 % 256
-    fourth = omega arith
-
-    fifth : v / 4_294_967_296 % 256 ≡ v / 4_294_967_296 % 256
-    fifth = refl
-
-    sixth : v / 4_294_967_296 / 256 % 256 ≡ v / 1_099_511_627_776 % 256
-    sixth = omega arith
-
-    seventh : v / 4_294_967_296 / 256 / 256 % 256 ≡ v / 281_474_976_710_656 % 256
-    seventh = omega arith
-
-    eighth : v / 4_294_967_296 / 256 / 256 / 256 % 256 ≡ v / 72_057_594_037_927_936 % 256
-    eighth = omega arith
+bytes8_is v = grind arith
 
 -- bytes over the whole of a buffer
 pub over_all : (l bs : List ℕ) → length l ≡ length bs → sets l 0 bs ≡ bs
