@@ -25,7 +25,8 @@ pub struct FloorQuotient {
 }
 
 // n / d down, with its remainder, which is never negative. Every caller's divisor is a numeral, so
-// that the `requires` is no question for it: by 0 there is no quotient.
+// that the `requires` is no question for it: by 0 there is no quotient. A divisor may be above what
+// `div_euclid` takes, so a number below zero is divided as -1 - n, which is `!n`.
 pub fn floor_div(n: i64, d: u64) -> FloorQuotient
     requires { 0 < d }
     ensures { FloorDivided n d result }
@@ -111,8 +112,8 @@ fn next_bit(partial: PartialRoot, pair: u64) -> PartialRoot
     }
 }
 
-// The whole square root, down, without a division: 32 rounds, each of which shifts the two highest bits
-// out of those that are left.
+// The whole square root, down, without a division, which `isqrt` has: 32 rounds, each of which shifts the
+// two highest bits out of those that are left.
 pub fn square_root(n: u64) -> u64
     ensures { (result ≡ root n) × (result < 2 ^ 32) }
 {
@@ -123,7 +124,7 @@ pub fn square_root(n: u64) -> u64
     let mut rest = n;
     for _ in 0..32_u32 {
         partial = next_bit(partial, rest >> 62);
-        rest = rest << 2;
+        rest <<= 2;
     }
     partial.root
 }
