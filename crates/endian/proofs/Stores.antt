@@ -1,11 +1,15 @@
 -- Runs of bytes stored one after another. Assumes nothing.
 use mathlib.Core.Path.{◌≡◌, refl, sym, ap, ◌∙◌}
-use Prim.Native.Nat.{ℕ, suc, ◌+◌, ◌/◌, ◌%◌, ◌≤◌, ◌<◌}
+use Prim.Native.Nat.{ℕ, suc, ◌+◌, ◌≤◌, ◌<◌}
 use native.Mathlib.Nat.{add-zero, add-suc, suc-add}
 use native.Mathlib.Omega.{arith}
 use mathlib.Core.List.{List, [], ◌∷◌, ◌++◌, append-nil}
 use lib.ListN.{length, get_or, set, take, drop, length-drop, take-append-drop, drop_of_length-le}
-use lib.Seq.{sets, sets-eq, set_comm, get_or-set_other, take-take, length-take-le}
+use lib.Seq.{sets, sets-eq, set_comm, get_or-set_other, take-take, take_all, length-take-le}
+use mir.Syntax.{w32, w64}
+use borrow.Rule.Slice.PartMut.{put_mid}
+use Rattle.std.specs.Int.{to_le_bytes}
+use Rattle.std.proofs.lemmas.Slice.{put_mid-paste}
 use Rattle.endian.specs.LittleEndian.{bytes4, bytes8}
 
 -- a run after another is one run
@@ -21,22 +25,25 @@ then l m n at k a b e p q =
     q ∙ ap (λ (j : List ℕ). sets j (at + k) b) p ∙ ap (λ (j : ℕ). sets (sets l at a) (at + j) b) (sym e)
     ∙ sets_append l at a b
 
--- four stores of code are a run
-pub sets4 : (l : List ℕ) (at a b c d : ℕ) → set (set (set (set l at a) (at + 1) b) (at + 2) c) (at + 3) d ≡ sets l at (a ∷ b ∷ c ∷ d ∷ [])
-sets4 l at a b c d =
-    let e1 : at + 1 ≡ suc at = omega arith in
-    let e2 : at + 2 ≡ suc (suc at) = omega arith in
-    let e3 : at + 3 ≡ suc (suc (suc at)) = omega arith in
-    rw (e1, e2, e3)
-
 pub length_bytes4 : (v : ℕ) → length (bytes4 v) ≡ 4
 unfolding bytes4
 length_bytes4 v = refl
 
--- two runs of four are the run of eight
-pub then8 : (l m n : List ℕ) (at v : ℕ) → m ≡ sets l at (bytes4 (v % 4294967296)) → n ≡ sets m (at + 4) (bytes4 (v / 4294967296)) → n ≡ sets l at (bytes8 v)
-unfolding bytes8
-then8 l m n at v p q = then l m n at 4 (bytes4 (v % 4294967296)) (bytes4 (v / 4294967296)) (length_bytes4 _) p q
+-- a part of a buffer copied over
+pub copied : (l ys zs : List ℕ) (at k : ℕ) → ys ≡ zs → length ys ≡ length (take k (drop at l)) → at + k ≤ length l → put_mid at k l ys ≡ sets l at zs
+copied l ys zs at k e h f =
+    let long : k ≡ length zs = omega (arith, ap length e, length-drop at l, length-take-le k (drop at l) (omega (arith, length-drop at l))) in
+    put_mid-paste at k l ys zs (length zs) e (sym long) refl
+    ∙ rw (take_all (length zs) zs (omega arith)) (sym (sets-eq zs l at (omega arith)))
+
+-- std's words for the same bytes
+pub bytes4_is : (v : ℕ) → bytes4 v ≡ to_le_bytes w32 v
+unfolding bytes4
+bytes4_is v = grind arith
+
+pub bytes8_is : (v : ℕ) → bytes8 v ≡ to_le_bytes w64 v
+unfolding bytes8 bytes4
+bytes8_is v = grind arith
 
 -- bytes over the whole of a buffer
 pub over_all : (l bs : List ℕ) → length l ≡ length bs → sets l 0 bs ≡ bs

@@ -1,5 +1,5 @@
 -- Little-endian numbers in a list of bytes. Assumes nothing.
-use Rattle.std.specs.Prelude.{ℕ, ◌+◌, ◌*◌, ◌/◌, ◌%◌, List, [], ◌∷◌, ◌++◌, get_or}
+use Rattle.std.specs.Prelude.{ℕ, ◌+◌, ◌*◌, ◌/◌, ◌%◌, List, [], ◌∷◌, ◌++◌, get_or, length, ◌≡◌}
 
 -- the number of the four bytes from `at`, the lowest first, and of the eight
 abbrev pub le4 : List ℕ → ℕ → ℕ
@@ -19,3 +19,8 @@ bytes8 v = bytes4 (v % 4_294_967_296) ++ bytes4 (v / 4_294_967_296)
 unfoldable pub words : List ℕ → List ℕ
 words [] = []
 words (w ∷ ws) = bytes4 w ++ words ws
+
+-- what a type of numbers owes: each has `size` bytes, and they read as the number again
+pub record ReadsBack {N : Type 0} (size : ℕ) (value_at : List ℕ → ℕ → N) (bytes_of : N → List ℕ) (Fits : N → Type 0) : Type 0 where
+  pub size_is : (x : N) → length (bytes_of x) ≡ size
+  pub read_back : (x : N) → Fits x → value_at (bytes_of x) 0 ≡ x

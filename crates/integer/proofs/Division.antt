@@ -1,6 +1,6 @@
 -- The quotient down and the mod. Assumes nothing.
 use mathlib.Core.Path.{◌≡◌, sym, ap}
-use Prim.Native.Nat.{ℕ, suc, ◌+◌, ◌*◌, ◌-◌, ◌/◌, ◌%◌, ◌≤◌, ◌<◌}
+use Prim.Native.Nat.{ℕ, ◌+◌, ◌*◌, ◌/◌, ◌%◌, ◌≤◌, ◌<◌}
 use native.Mathlib.Decide.{dec_le}
 use native.Mathlib.Nat.{zero-mul, suc-mul, add-mul, mod-lt, div-add-mod', lt_of_not-le, le_refl, mul-le-mul_right}
 use native.Mathlib.Omega.{arith}
@@ -90,10 +90,3 @@ within_floor {b} (negsuc a) d h =
 pub within_product_floor : {a b : ℕ} {r z : ℤ} (s d : ℕ) → Within a r → Within b z → Within (a * b * s / d + 1) (floor_z (r *ℤ z *ℤ pos s) d)
 within_product_floor {r = r} {z = z} s d h k =
     within_floor (r *ℤ z *ℤ pos s) d (within_mul (within_mul h k) (within_pos (le_refl s)))
-
--- at each sign, from the number's magnitude
-pub floor_neg : (z : ℤ) (d m : ℕ) → z ≡ negsuc m → (floor_z z d ≡ negsuc (m / d)) × (mod_z z d ≡ d - suc (m % d))
-floor_neg z d m e = (ap (λ (y : ℤ). floor_z y d) e, ap (λ (y : ℤ). mod_z y d) e)
-
-pub floor_pos : (z : ℤ) (d m : ℕ) → z ≡ pos m → (floor_z z d ≡ pos (m / d)) × (mod_z z d ≡ m % d)
-floor_pos z d m e = (ap (λ (y : ℤ). floor_z y d) e, ap (λ (y : ℤ). mod_z y d) e)

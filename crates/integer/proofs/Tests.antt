@@ -1,23 +1,13 @@
 -- What a test of signed numbers tells, and a chain of tests. Assumes nothing.
 use mathlib.Core.Path.{◌≡◌, refl, sym, subst}
 use mathlib.Core.Bool.{Bool, true, false, ◌||◌, ◌&&◌}
-use Prim.Native.Nat.{ℕ, suc, zero-le}
+use Prim.Native.Nat.{ℕ, suc}
 use native.Mathlib.Omega.{arith}
-use borrow.Author.Tests.{le-ltb}
 use lib.Dec.{T}
 use lib.IntN.{ℤ, pos, negsuc}
-use lib.Signed.{mag, lt_z}
+use lib.Signed.{lt_z}
 use Rattle.integer.specs.Bound.{Within}
 use Rattle.integer.proofs.Parts.{test_ge}
-
--- a number below zero is `negsuc` of its `mag`, any other `pos` of it
-pub is_neg : (z : ℤ) → lt_z z (pos 0) ≡ true → z ≡ negsuc (mag z)
-is_neg (pos n) e = absurd (subst T (le-ltb n 0 zero-le) (subst T (sym e) tt))
-is_neg (negsuc n) e = refl
-
-pub is_pos : (z : ℤ) → lt_z z (pos 0) ≡ false → z ≡ pos (mag z)
-is_pos (pos n) e = refl
-is_pos (negsuc n) e = absurd (subst T e tt)
 
 pub or_yes : (a b : Bool) → a ≡ true → a ≡ (a || b)
 or_yes true b e = refl

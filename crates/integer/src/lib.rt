@@ -11,27 +11,11 @@ ghost use Rattle.integer.specs.Contract.{FloorDivided, Scalable, RootSoFar, BitA
 ghost use Rattle.integer.specs.Division.{floor_z};
 ghost use Rattle.integer.specs.Root.{root};
 
-// x where x is not negative, else -1 - x.
-fn ones_magnitude(x: i64) -> u64
-    ensures { (result ≡ mag x) × (result < 2 ^ 63) }
-{
-    if x < 0 { (-1 - x) as u64 } else { x as u64 }
-}
-
-// -1 - m.
-fn below_zero(m: u64) -> i64
-    requires { m < 2 ^ 63 }
-    ensures { result ≡ negsuc m }
-{
-    -1 - (m as i64)
-}
-
 // The magnitude |x|.
 pub fn magnitude(x: i64) -> u64
     ensures { result ≡ nat_abs x }
 {
-    let m = ones_magnitude(x);
-    if x < 0 { m + 1 } else { m }
+    x.unsigned_abs()
 }
 
 #[derive(Clone, Copy)]
@@ -41,18 +25,20 @@ pub struct FloorQuotient {
 }
 
 // n / d down, with its remainder, which is never negative. Every caller's divisor is a numeral, so
-// that the `requires` is no question for it: by 0 there is no quotient.
+// that the `requires` is no question for it: by 0 there is no quotient. A divisor may be above what
+// `div_euclid` takes, so a number below zero is divided as -1 - n, which is `!n`.
 pub fn floor_div(n: i64, d: u64) -> FloorQuotient
     requires { 0 < d }
     ensures { FloorDivided n d result }
 {
-    let m = ones_magnitude(n);
     if n < 0 {
+        let m = !n as u64;
         FloorQuotient {
-            quotient: below_zero(m / d),
+            quotient: !((m / d) as i64),
             remainder: d - 1 - m % d,
         }
     } else {
+        let m = n as u64;
         FloorQuotient {
             quotient: (m / d) as i64,
             remainder: m % d,
@@ -75,34 +61,26 @@ pub fn floor_scaled(x: i64, scale: u64, d: u64) -> i64
 pub fn bits_of_i64(x: i64) -> u64
     ensures { result ≡ of_z w64 x }
 {
-    let m = ones_magnitude(x);
-    if x < 0 { 18446744073709551615 - m } else { m }
+    x.cast_unsigned()
+}
+
+pub fn bits_of_i32(n: i32) -> u32
+    ensures { result ≡ of_z w32 n }
+{
+    n.cast_unsigned()
 }
 
 // The number whose bits in two's complement are b.
 pub fn i64_of_bits(b: u64) -> i64
     ensures { result ≡ to_z w64 b }
 {
-    if b < 0x8000_0000_0000_0000 {
-        b as i64
-    } else {
-        below_zero(18446744073709551615 - b)
-    }
+    b.cast_signed()
 }
 
-// The bits of x in two's complement: the lower half of those in 64 bits.
-pub fn bits_of_i32(x: i32) -> u32
-    ensures { result ≡ of_z w32 x }
+pub fn i32_of_bits(word: u32) -> i32
+    ensures { result ≡ to_z w32 word }
 {
-    (bits_of_i64(x as i64) % 0x1_0000_0000) as u32
-}
-
-// The number whose bits in two's complement are b. They are read in the upper half of 64, and the shift
-// down keeps the sign.
-pub fn i32_of_bits(b: u32) -> i32
-    ensures { result ≡ to_z w32 b }
-{
-    (i64_of_bits(b as u64 * 0x1_0000_0000) >> 32) as i32
+    word.cast_signed()
 }
 
 // The whole square root of a number's highest bits, and what the root's square leaves of them.
@@ -124,7 +102,7 @@ fn next_bit(partial: PartialRoot, pair: u64) -> PartialRoot
     if remainder < subtrahend {
         PartialRoot {
             root: doubled,
-            remainder: remainder,
+            remainder,
         }
     } else {
         PartialRoot {
@@ -134,8 +112,8 @@ fn next_bit(partial: PartialRoot, pair: u64) -> PartialRoot
     }
 }
 
-// The whole square root, down, without a division: 32 rounds, each of which shifts the two highest bits
-// out of those that are left.
+// The whole square root, down, without a division, which `isqrt` has: 32 rounds, each of which shifts the
+// two highest bits out of those that are left.
 pub fn square_root(n: u64) -> u64
     ensures { (result ≡ root n) × (result < 2 ^ 32) }
 {
@@ -144,11 +122,9 @@ pub fn square_root(n: u64) -> u64
         remainder: 0,
     };
     let mut rest = n;
-    let mut round: u32 = 0;
-    while round < 32 {
+    for _ in 0..32_u32 {
         partial = next_bit(partial, rest >> 62);
-        rest = rest << 2;
-        round += 1;
+        rest <<= 2;
     }
     partial.root
 }

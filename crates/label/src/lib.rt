@@ -54,7 +54,7 @@ pub fn encode(label: Label, out: &mut [u8], at: usize)
     let watts = reading.watts_bits();
     endian::write_i64(out, at, label.time);
     endian::write_i32(out, at + 8, label.revolution);
-    endian::write_four(out, at + 12, label.side, label.shade, code, 0);
+    endian::write_four(out, at + 12, [label.side, label.shade, code, 0]);
     endian::write_i32(out, at + 16, label.elevation);
     endian::write_u32(out, at + 20, watts);
 }
