@@ -4,6 +4,7 @@ use Prim.Native.Nat.{ℕ, ◌*◌, ◌≤◌, ◌<◌}
 use native.Mathlib.Omega.{arith}
 use mathlib.Core.Bool.{Bool, true, false, cond}
 use mathlib.Core.List.{List, ◌++◌}
+use lib.IntN.{ℤ}
 use lib.ListN.{length, take, drop}
 use lib.Seq.{sets}
 use lib.Dec.{ltb}
@@ -15,7 +16,7 @@ use Rattle.elements.specs.declared.Elements.{Elements}
 use Rattle.elements_buffer.specs.Buffer.{elements_bytes}
 use Rattle.element_sets.specs.Table.{row_size, is_table, before, up_to, scanned, split_at}
 use Rattle.element_sets.specs.Putting.{end_with, putting_of, putting, with_set}
-use Rattle.element_sets.proofs.Sound.{told}
+use Rattle.element_sets.proofs.Sound.{told, told_one, told_rows}
 use Rattle.element_sets.specs.declared.table.Split.{Split}
 use Rattle.std.specs.Prelude.{Err, None, Ok, Option, Result, Some}
 
@@ -29,6 +30,13 @@ module _ (el : Elements) (buffer : List ℕ) (size : ℕ) where
       pub set_stored : sets buffer (row_size * earlier) (elements_bytes el ++ drop (row_size * later) (take size buffer)) ≡ with_set el buffer size
       unfolding with_set
       set_stored = let t = told buffer size el.epoch earlier later e in rw (t.earlier_is, t.later_is)
+
+-- what the rows that a table was found to have are bounded by
+pub scan_bounds : (buffer : List ℕ) (size : ℕ) (time : ℤ) (split : Split) → scanned buffer size time ≡ Some split
+    → (split.earlier ≤ split.up_to) × (row_size * split.up_to ≤ size) × (size ≤ length buffer)
+scan_bounds buffer size time split e =
+    let t = told buffer size time split.earlier split.up_to e in
+    ((told_one buffer size time split.earlier split.up_to t).order, told_rows buffer size time split.earlier split.up_to t, t.held)
 
 -- ---- what an answer tells
 
