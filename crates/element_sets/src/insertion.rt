@@ -24,7 +24,7 @@ fn place(buffer: &mut [u8], split: Split, size: usize, elements: Elements)
 }
 
 // The table's length with the set.
-#[tactic(auto, using(crate::proofs::Puts::scan_bounds, crate::proofs::Puts::put_placed, crate::proofs::Puts::set_stored), unfolding(crate::specs::Putting::putting, crate::specs::Putting::with_set))]
+#[tactic(auto, using(crate::proofs::Puts::scan_bounds), unfolding(crate::specs::Putting::putting))]
 pub fn put(elements: Elements, buffer: &mut [u8], size: usize) -> Result<usize, Refusal>
     ensures { (result ≡ putting elements buffer.old size) × (buffer.new ≡ stored result elements buffer.old size) }
 {

@@ -58,6 +58,7 @@ fn keeps(table: &[u8], k: usize) -> bool
     elements::check(set_at(table, k)).is_ok() && follows(table, k)
 }
 
+#[tactic(auto, using(crate::proofs::Scans::scan_broken), unfolding(sequence::specs::Sequence::leading))]
 fn scan_rows(table: &[u8], time: i64) -> Option<Split>
     requires { length table.now % row_size ≡ 0 }
     ensures { result ≡ scanned table.now (length table.now) time }
