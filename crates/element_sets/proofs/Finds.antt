@@ -1,22 +1,22 @@
 -- What finding answers, case by case. Assumes nothing.
-use mathlib.Core.Path.{◌≡◌, refl, sym, ap, ◌∙◌, subst}
+use mathlib.Core.Path.{◌≡◌, refl, subst}
 use Prim.Native.Nat.{ℕ, ◌+◌, ◌*◌, ◌-◌, ◌≤◌, ◌<◌}
 use native.Mathlib.Omega.{arith}
 use mathlib.Core.Bool.{Bool, true, false, cond, ◌&&◌}
 use mathlib.Core.List.{List}
 use lib.Dec.{ltb}
 use lib.IntN.{ℤ}
-use lib.ListN.{length, take, drop}
+use lib.ListN.{length, take}
 use lib.Seq.{length-take-le}
-use borrow.Author.Tests.{lt-ltb, le-ltb, ltb-true, ltb-false, le-leb}
+use borrow.Author.Tests.{ltb-true, ltb-false}
 use Rattle.refusal.specs.declared.Refusal.TheVariants.{Table, NoSet}
-use Rattle.element_sets.specs.Table.{row_size, rows_in, is_table_in, before, up_to, scanned, split_at}
-use Rattle.element_sets.specs.Finding.{found_among, finding}
-use Rattle.element_sets.proofs.Sound.{told, in_buffer, few}
+use Rattle.element_sets.specs.Table.{row_size, rows_in, is_table_in, up_to}
+use Rattle.element_sets.specs.Finding.{finding}
+use Rattle.element_sets.proofs.Sound.{in_buffer, few}
 use Rattle.element_sets.specs.declared.lookup.Row.TheVariants.{Past, Forecast}
 use Rattle.element_sets.specs.declared.lookup.Row.{Row}
 use Rattle.refusal.specs.declared.Refusal.{Refusal}
-use Rattle.std.specs.Prelude.{Err, None, Ok, Result, Some}
+use Rattle.std.specs.Prelude.{Err, Ok, Result}
 
 module _ (past : List ℕ) (past_size : ℕ) (forecast : List ℕ) (forecast_size : ℕ) (time : ℤ) where
   abbrev answer : Result Row Refusal

@@ -1,34 +1,40 @@
 -- What putting answers and leaves, case by case. Assumes nothing.
 use mathlib.Core.Path.{◌≡◌, refl}
-use Prim.Native.Nat.{ℕ, ◌*◌, ◌≤◌, ◌<◌}
+use Prim.Native.Nat.{ℕ, ◌*◌, ◌≤◌}
 use native.Mathlib.Omega.{arith}
 use mathlib.Core.Bool.{Bool, true, false, cond}
 use mathlib.Core.List.{List, ◌++◌}
+use lib.IntN.{ℤ}
 use lib.ListN.{length, take, drop}
 use lib.Seq.{sets}
 use lib.Dec.{ltb}
-use borrow.Author.Tests.{lt-ltb, le-ltb, ltb-false}
+use borrow.Author.Tests.{le-ltb, ltb-false}
 use Rattle.refusal.specs.declared.Refusal.{Refusal}
-use Rattle.refusal.specs.declared.Refusal.TheVariants.{Table, Room}
+use Rattle.refusal.specs.declared.Refusal.TheVariants.{Room}
 use Rattle.elements.specs.Elements.{checked}
 use Rattle.elements.specs.declared.Elements.{Elements}
 use Rattle.elements_buffer.specs.Buffer.{elements_bytes}
 use Rattle.element_sets.specs.Table.{row_size, is_table, before, up_to, scanned, split_at}
 use Rattle.element_sets.specs.Putting.{end_with, putting_of, putting, with_set}
-use Rattle.element_sets.proofs.Sound.{told}
+use Rattle.element_sets.proofs.Sound.{told, told_one, told_rows}
 use Rattle.element_sets.specs.declared.table.Split.{Split}
 use Rattle.std.specs.Prelude.{Err, None, Ok, Option, Result, Some}
 
-module _ (el : Elements) (buffer : List ℕ) (size : ℕ) where
-  module _ (passed : checked el ≡ Ok tt) where
-    module _ {earlier later : ℕ} (e : scanned buffer size el.epoch ≡ Some (split_at earlier later)) where
-      pub put_placed : end_with earlier later size ≤ length buffer → Ok (end_with earlier later size) ≡ putting el buffer size
-      unfolding putting
-      put_placed h = rw (passed, e, le-ltb (length buffer) (end_with earlier later size) h)
+module _ (el : Elements) (buffer : List ℕ) (size : ℕ) {split : Split} (e : scanned buffer size el.epoch ≡ Some split) where
+  pub put_placed : checked el ≡ Ok tt → end_with split.earlier split.up_to size ≤ length buffer → Ok (end_with split.earlier split.up_to size) ≡ putting el buffer size
+  unfolding putting
+  put_placed passed h = rw (passed, e, le-ltb (length buffer) (end_with split.earlier split.up_to size) h)
 
-      pub set_stored : sets buffer (row_size * earlier) (elements_bytes el ++ drop (row_size * later) (take size buffer)) ≡ with_set el buffer size
-      unfolding with_set
-      set_stored = let t = told buffer size el.epoch earlier later e in rw (t.earlier_is, t.later_is)
+  pub set_stored : sets buffer (row_size * split.earlier) (elements_bytes el ++ drop (row_size * split.up_to) (take size buffer)) ≡ with_set el buffer size
+  unfolding with_set
+  set_stored = let t = told buffer size el.epoch split.earlier split.up_to e in rw (t.earlier_is, t.later_is)
+
+-- what the rows that a table was found to have are bounded by
+pub scan_bounds : (buffer : List ℕ) (size : ℕ) (time : ℤ) (split : Split) → scanned buffer size time ≡ Some split
+    → (split.earlier ≤ split.up_to) × (row_size * split.up_to ≤ size) × (size ≤ length buffer)
+scan_bounds buffer size time split e =
+    let t = told buffer size time split.earlier split.up_to e in
+    ((told_one buffer size time split.earlier split.up_to t).order, told_rows buffer size time split.earlier split.up_to t, t.held)
 
 -- ---- what an answer tells
 

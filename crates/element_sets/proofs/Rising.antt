@@ -1,6 +1,6 @@
 -- The order of the rows, and what finding gives by it. Assumes nothing.
-use mathlib.Core.Path.{◌≡◌, refl, sym, ap, subst}
-use Prim.Native.Nat.{ℕ, zero, suc, ◌+◌, ◌≤◌, ◌<◌}
+use mathlib.Core.Path.{◌≡◌, refl, ap, subst}
+use Prim.Native.Nat.{ℕ, ◌+◌, ◌≤◌, ◌<◌}
 use native.Mathlib.Nat.{eq-or-lt_of_le}
 use native.Mathlib.Omega.{arith}
 use mathlib.Core.Logic.{⊎_elim}
@@ -12,7 +12,7 @@ use lib.ListN.{length, take}
 use lib.Seq.{length-take-le}
 use lib.Signed.{le_z, lt_z}
 use borrow.Author.Tests.{ltb-true, ltb-false}
-use Rattle.integer.proofs.Order.{before_parts, up_to_parts, after_parts, parts_before, parts_up_to, parts_after}
+use Rattle.integer.proofs.Order.{before_parts, up_to_parts, after_parts, parts_up_to, parts_after}
 use Rattle.element_sets.specs.Table.{rows_in, epoch_at, is_table, is_table_in, up_to}
 use Rattle.element_sets.specs.Theorems.{LatestUpTo, NoneUpTo, Earliest, FoundAnswers}
 use Rattle.element_sets.proofs.Scans.{rising_among}

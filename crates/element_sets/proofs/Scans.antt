@@ -4,7 +4,7 @@ use Prim.Native.Nat.{ℕ, zero, suc, ◌+◌, ◌%◌, ◌≤◌, ◌<◌}
 use native.Mathlib.Nat.{le_refl, eq-or-lt_of_le}
 use native.Mathlib.Omega.{arith}
 use mathlib.Core.Logic.{⊎_elim}
-use mathlib.Core.Bool.{Bool, true, false, cond, ◌&&◌, and-false}
+use mathlib.Core.Bool.{Bool, true, false, cond, ◌&&◌}
 use mathlib.Core.List.{List}
 use lib.Dec.{eqb}
 use lib.IntN.{ℤ}
@@ -15,7 +15,7 @@ use borrow.Author.Tests.{le-leb, lt-leb, eq-eqb, ne_eqb}
 use Rattle.integer.proofs.Tests.{and_true}
 use Rattle.integer.proofs.Order.{before_parts, up_to_parts, parts_before, parts_up_to}
 use Rattle.sequence.specs.Sequence.{leading}
-use Rattle.sequence.proofs.Sequences.{leading_all, leading_stops, leading_more}
+use Rattle.sequence.proofs.Sequences.{leading_all, leading_stops}
 use Rattle.elements.specs.Elements.{checked}
 use Rattle.element_sets.specs.Table.{row_size, rows_in, set_at, epoch_at, accepts, follows, keeps_at, is_table, is_table_in, before, up_to, scanned, split_at}
 use Rattle.std.specs.Prelude.{None, Some}

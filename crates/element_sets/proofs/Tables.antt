@@ -1,17 +1,16 @@
 -- What a row's bytes tell. Assumes nothing.
-use mathlib.Core.Path.{◌≡◌, refl, sym, ap, ◌∙◌}
-use Prim.Native.Nat.{ℕ, zero, suc, ◌+◌, ◌*◌, ◌-◌, ◌<◌}
+use mathlib.Core.Path.{◌≡◌, sym, ap, ◌∙◌}
+use Prim.Native.Nat.{ℕ, ◌+◌, ◌*◌, ◌<◌}
 use native.Mathlib.Nat.{add-zero, add_assoc}
 use native.Mathlib.Omega.{arith}
 use mathlib.Core.List.{List}
 use lib.ListN.{get_or, drop}
 use lib.Seq.{get_or-take, get_or-drop}
-use lib.Signed.{lt_z}
 use mir.Syntax.{w64}
 use mir.Val.{to_z}
 use Rattle.endian.specs.LittleEndian.{le4, le8}
 use Rattle.elements_buffer.specs.Buffer.{elements_of}
-use Rattle.element_sets.specs.Table.{row_size, row_at, set_at, epoch_at, follows}
+use Rattle.element_sets.specs.Table.{row_size, row_at, set_at, epoch_at}
 
 module _ (table : List ℕ) (k : ℕ) where
   row_byte : (i j : ℕ) → i + j < row_size → get_or (row_at table k) (i + j) 0 ≡ get_or table (row_size * k + i + j) 0

@@ -13,6 +13,7 @@ use elements_buffer::SIZE;
 use refusal::Refusal;
 
 // The set behind the earlier rows, and the later ones behind it. A row of its own epoch is written over.
+#[tactic(auto, using(crate::proofs::Moves::moved_up, crate::proofs::Moves::set_placed))]
 fn place(buffer: &mut [u8], split: Split, size: usize, elements: Elements)
     requires { Roomy split.earlier split.up_to size (length buffer.old) }
     ensures { buffer.new ≡ sets buffer.old (row_size * split.earlier) (elements_bytes elements ++ drop (row_size * split.up_to) (take size buffer.old)) }
@@ -23,7 +24,7 @@ fn place(buffer: &mut [u8], split: Split, size: usize, elements: Elements)
 }
 
 // The table's length with the set.
-#[tactic(auto, unfolding(crate::specs::Putting::putting, crate::specs::Putting::with_set))]
+#[tactic(auto, using(crate::proofs::Puts::scan_bounds), unfolding(crate::specs::Putting::putting))]
 pub fn put(elements: Elements, buffer: &mut [u8], size: usize) -> Result<usize, Refusal>
     ensures { (result ≡ putting elements buffer.old size) × (buffer.new ≡ stored result elements buffer.old size) }
 {

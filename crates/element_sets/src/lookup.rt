@@ -36,7 +36,7 @@ pub fn locate(
 }
 
 // The row itself, in its table.
-#[tactic(auto, unfolding(crate::specs::Finding::RowIs))]
+#[tactic(auto, using(crate::proofs::Finds::past_row, crate::proofs::Finds::forecast_row), unfolding(crate::specs::Finding::RowIs))]
 pub fn find<'a>(
     past: &'a [u8],
     past_size: usize,

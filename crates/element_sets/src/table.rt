@@ -32,7 +32,7 @@ fn set_at(table: &[u8], k: usize) -> Elements
     elements_buffer::read_elements(row(table, k))
 }
 
-#[tactic(auto, unfolding(crate::specs::Table::set_at))]
+#[tactic(auto, using(crate::proofs::Tables::epoch_first))]
 fn epoch_at(table: &[u8], k: usize) -> i64
     requires { row_size * k + row_size ≤ length table.now }
     ensures { result ≡ epoch_at table.now k }
@@ -58,6 +58,7 @@ fn keeps(table: &[u8], k: usize) -> bool
     elements::check(set_at(table, k)).is_ok() && follows(table, k)
 }
 
+#[tactic(auto, using(crate::proofs::Scans::scan_broken), unfolding(sequence::specs::Sequence::leading))]
 fn scan_rows(table: &[u8], time: i64) -> Option<Split>
     requires { length table.now % row_size ≡ 0 }
     ensures { result ≡ scanned table.now (length table.now) time }
@@ -80,7 +81,7 @@ fn scan_rows(table: &[u8], time: i64) -> Option<Split>
     Some(Split { earlier, up_to })
 }
 
-#[tactic(auto, unfolding(crate::specs::Table::scanned))]
+#[tactic(auto, using(crate::proofs::Scans::scan_beyond, crate::proofs::Scans::scan_ragged, crate::proofs::Scans::scan_part))]
 pub(crate) fn scan_table(buffer: &[u8], size: usize, time: i64) -> Option<Split>
     ensures { result ≡ scanned buffer.now size time }
 {

@@ -1,23 +1,13 @@
 -- `element_sets::table::scan_rows` meets its contract. Assumes nothing.
-use mathlib.Core.Path.{refl, sym, ◌∙◌}
+use mathlib.Core.Path.{sym, ◌∙◌}
 use native.Mathlib.Omega.{arith}
 use mir.Syntax.{w64}
 use mir.Facts.{to_z-of_z}
 use borrow.Author.Count.{below_more}
-use Rattle.sequence.specs.Sequence.{leading}
 use Rattle.sequence.proofs.Sequences.{leading_kept}
-use Rattle.element_sets.proofs.Scans.{scan_broken, scan_sound, all_before, all_up_to}
+use Rattle.element_sets.proofs.Scans.{scan_sound, all_before, all_up_to}
 use Rattle.element_sets.proofs.table.scan_rows.Goals as goal
 use Rattle.element_sets.proofs.table.scan_rows.Goals.{then-epoch-time, else-epoch-time, then-epoch-time-2, else-epoch-time-2}
-
-pub loop-k-init : goal.loop-k-init
-unfolding leading
-loop-k-init c = ((λ j l. absurd (omega arith)), refl, refl)
-
-pub returns-then-not-keeps : goal.returns-then-not-keeps
-returns-then-not-keeps c =
-    let l = c.loop-k in
-    scan_broken c.args.table.now c.args.time l.k l.invariant.0 (sym c.keeps.ensures ∙ c.if-not-keeps.true) (omega arith)
 
 pub loop-k-preserved : goal.loop-k-preserved
 loop-k-preserved c =
@@ -27,12 +17,12 @@ loop-k-preserved c =
     let epoch = to_z-of_z {w = w64} (record { sfits = c.epoch_at-epoch.type_inv }) ∙ c.epoch_at-epoch.ensures in (
       keeps,
       elim c.if-epoch-time.branch [
-        then-epoch-time w ↦ w.earlier-is ∙ sym (all_before a.table.now _ l.k keeps (rw epoch at w.if-epoch-time.true))
-      | else-epoch-time w ↦ w.earlier-is ∙ l.invariant.1 ∙ sym (leading_kept _ l.k (rw epoch at w.if-epoch-time.false))
+        | then-epoch-time w ↦ w.earlier-is ∙ sym (all_before a.table.now _ l.k keeps (rw epoch at w.if-epoch-time.true))
+        | else-epoch-time w ↦ w.earlier-is ∙ l.invariant.1 ∙ sym (leading_kept _ l.k (rw epoch at w.if-epoch-time.false))
       ],
       elim c.if-epoch-time-2.branch [
-        then-epoch-time-2 w ↦ w.up_to-is ∙ sym (all_up_to a.table.now _ l.k keeps (rw epoch at w.if-epoch-time-2.true))
-      | else-epoch-time-2 w ↦ w.up_to-is ∙ l.invariant.2 ∙ sym (leading_kept _ l.k (rw epoch at w.if-epoch-time-2.false))
+        | then-epoch-time-2 w ↦ w.up_to-is ∙ sym (all_up_to a.table.now _ l.k keeps (rw epoch at w.if-epoch-time-2.true))
+        | else-epoch-time-2 w ↦ w.up_to-is ∙ l.invariant.2 ∙ sym (leading_kept _ l.k (rw epoch at w.if-epoch-time-2.false))
       ],
     )
 
