@@ -68,8 +68,9 @@ module _ (el : Elements) (one two more more' front front' rest rest' : List ℕ)
       let together = joined_records one more (day_passed el one room counts size labelled).records.whole in
       let number : labelled'.counts.labels ≡ n = labels_number el (one ++ more) (length out) labelled'.counts labelled'.end e ∙ together in
       let ends : labelled'.end ≡ distance_back Bytes24 n = end_is el (one ++ more) out labelled'.counts labelled'.end e ∙ ap (distance_back Bytes24) together in
-      let same : labelled'.counts ≡ c = cc in
-      let moved_end : length front + labelled'.end ≡ end = cc in
+      let is : labelled_to labelled'.counts (length front + labelled'.end) ≡ labelled_to c end = cc in
+      let same = ap (λ (x : Labelled). x.counts) is in
+      let moved_end = ap (λ (x : Labelled). x.end) is in
       (ap (λ (x : Counts). x.labels) (sym same) ∙ number, sym moved_end ∙ ap (λ (k : ℕ). length front + k) ends)
 
   pub added_sizes : (c : Counts) (end : ℕ) → adding el (front ++ (file_for el form one ++ rest)) (length front + length (file_for el form one)) more ≡ Ok (labelled_to c end)
