@@ -7,4 +7,4 @@ use Rattle.buffers.proofs.answers.write_figure.Goals as goal
 pub returns : goal.returns
 unfolding bytes4
 returns c =
-    c.write_u32.ensures ∙ over_all c.args.answer.now (bytes4 c.args.figure) c.requires
+    c.write.ensures ∙ over_all c.args.answer.now (bytes4 c.args.figure) c.requires

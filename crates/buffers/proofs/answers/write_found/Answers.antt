@@ -11,4 +11,4 @@ returns c =
     let l = c.args.answer.now in
     let offset = c.args.offset in
     let table = c.args.table in
-    then l _ _ 0 8 (bytes8 offset) (bytes4 table) refl c.write_u64.ensures c.write_u32.ensures ∙ over_all l (found_bytes offset table) c.requires
+    then l _ _ 0 8 (bytes8 offset) (bytes4 table) refl c.write.ensures c.write-2.ensures ∙ over_all l (found_bytes offset table) c.requires

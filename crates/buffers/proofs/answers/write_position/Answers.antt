@@ -22,5 +22,5 @@ returns c =
     let y : SFits w64 p.y = search rules in
     let z : SFits w64 p.z = search rules in
     let bits : ℤ → List ℕ = λ v. bytes8 (of_z w64 v) in
-    let two = then l _ _ at 8 (bits p.x) (bits p.y) refl (rw (to_z-of_z x) at c.write_i64.ensures) (rw (to_z-of_z y) at c.write_i64-2.ensures) in
-    then l _ _ at 16 (bits p.x ++ bits p.y) (bits p.z) refl two (rw (to_z-of_z z) at c.write_i64-3.ensures)
+    let two = then l _ _ at 8 (bits p.x) (bits p.y) refl (rw (to_z-of_z x) at c.write.ensures) (rw (to_z-of_z y) at c.write-2.ensures) in
+    then l _ _ at 16 (bits p.x ++ bits p.y) (bits p.z) refl two (rw (to_z-of_z z) at c.write-3.ensures)

@@ -11,4 +11,4 @@ returns c =
     let l = c.args.answer.now in
     let labels = c.args.labels in
     let dropped = c.args.dropped in
-    then l _ _ 0 4 (bytes4 labels) (bytes8 dropped) refl c.write_u32.ensures c.write_u64.ensures ∙ over_all l (salvage_bytes labels dropped) c.requires
+    then l _ _ 0 4 (bytes4 labels) (bytes8 dropped) refl c.write.ensures c.write-2.ensures ∙ over_all l (salvage_bytes labels dropped) c.requires

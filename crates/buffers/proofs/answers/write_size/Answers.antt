@@ -7,4 +7,4 @@ use Rattle.buffers.proofs.answers.write_size.Goals as goal
 pub returns : goal.returns
 unfolding bytes8 bytes4
 returns c =
-    c.write_u64.ensures ∙ over_all c.args.answer.now (bytes8 c.args.size) c.requires
+    c.write.ensures ∙ over_all c.args.answer.now (bytes8 c.args.size) c.requires
