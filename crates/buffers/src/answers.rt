@@ -16,6 +16,7 @@ use position::Position;
 use sun::Sun;
 use trailer::{Counts, Form};
 
+#[tactic(auto, using(endian::proofs::Words::words_fill), unfolding(crate::specs::Answers::anomaly_bytes))]
 pub fn write_anomaly(answer: &mut [u8], anomaly: Anomaly)
     requires { length answer.old ≡ 8 }
     ensures { answer.new ≡ anomaly_bytes anomaly }
@@ -25,6 +26,7 @@ pub fn write_anomaly(answer: &mut [u8], anomaly: Anomaly)
 }
 
 // A direction's components are within the range of 32 bits.
+#[tactic(auto, using(integer::proofs::Bounds::sfits_within))]
 fn component_bits(component: i64) -> u32
     requires { Within (2 ^ 30) component }
     ensures { result ≡ of_z w32 component }
@@ -32,6 +34,7 @@ fn component_bits(component: i64) -> u32
     integer::bits_of_i32(component as i32)
 }
 
+#[tactic(auto, using(endian::proofs::Words::words_fill), unfolding(crate::specs::Answers::sun_bytes))]
 pub fn write_sun(answer: &mut [u8], sun: Sun)
     requires { (length answer.old ≡ 28) × WithinOne sun.direction }
     ensures { answer.new ≡ sun_bytes sun }
@@ -49,6 +52,7 @@ pub fn write_sun(answer: &mut [u8], sun: Sun)
     endian::write_words(answer, 0, &numbers);
 }
 
+#[tactic(auto, using(endian::proofs::Stores::then), unfolding(crate::specs::Answers::position_bytes, endian::specs::LittleEndian::bytes8, endian::specs::LittleEndian::bytes4))]
 fn write_position(answer: &mut [u8], at: usize, position: Position)
     requires { at + 24 ≤ length answer.old }
     ensures { answer.new ≡ sets answer.old at (position_bytes position) }
@@ -76,6 +80,7 @@ pub fn write_state(answer: &mut [u8], state: State, earth_fixed: Position)
     write_position(answer, 44, earth_fixed);
 }
 
+#[tactic(auto, unfolding(crate::specs::Answers::counts_bytes))]
 pub fn write_counts(answer: &mut [u8], at: usize, counts: Counts)
     requires { at + 20 ≤ length answer.old }
     ensures { answer.new ≡ sets answer.old at (counts_bytes counts) }
@@ -106,6 +111,7 @@ pub fn write_adding(answer: &mut [u8], counts: Counts, size: usize)
     write_counts(answer, 8, counts);
 }
 
+#[tactic(auto, using(endian::proofs::Stores::then, endian::proofs::Stores::over_all), unfolding(crate::specs::Answers::salvage_bytes, endian::specs::LittleEndian::bytes8, endian::specs::LittleEndian::bytes4))]
 pub fn write_salvage(answer: &mut [u8], labels: u32, dropped: usize)
     requires { length answer.old ≡ 12 }
     ensures { answer.new ≡ salvage_bytes labels dropped }
@@ -114,6 +120,7 @@ pub fn write_salvage(answer: &mut [u8], labels: u32, dropped: usize)
     (dropped as u64).write(answer, 4);
 }
 
+#[tactic(auto, using(endian::proofs::Stores::over_all), unfolding(endian::specs::LittleEndian::bytes4))]
 pub fn write_figure(answer: &mut [u8], figure: u32)
     requires { length answer.old ≡ 4 }
     ensures { answer.new ≡ bytes4 figure }
@@ -121,6 +128,7 @@ pub fn write_figure(answer: &mut [u8], figure: u32)
     figure.write(answer, 0);
 }
 
+#[tactic(auto, using(endian::proofs::Stores::then, endian::proofs::Stores::over_all), unfolding(crate::specs::Answers::found_bytes, endian::specs::LittleEndian::bytes8, endian::specs::LittleEndian::bytes4))]
 pub fn write_found(answer: &mut [u8], offset: usize, table: u32)
     requires { length answer.old ≡ 12 }
     ensures { answer.new ≡ found_bytes offset table }
@@ -129,6 +137,7 @@ pub fn write_found(answer: &mut [u8], offset: usize, table: u32)
     table.write(answer, 8);
 }
 
+#[tactic(auto, using(endian::proofs::Stores::over_all), unfolding(endian::specs::LittleEndian::bytes8, endian::specs::LittleEndian::bytes4))]
 pub fn write_size(answer: &mut [u8], size: usize)
     requires { length answer.old ≡ 8 }
     ensures { answer.new ≡ bytes8 size }
