@@ -1,2 +1,1 @@
-pub mod StoredDays
 pub mod DaysBack

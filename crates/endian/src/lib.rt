@@ -125,68 +125,12 @@ impl LittleEndian for i64 {
     }
 }
 
-pub fn read_u32(bytes: &[u8], at: usize) -> u32
-    requires { at + 4 ≤ length bytes.now }
-    ensures { result ≡ le4 bytes.now at }
-{
-    u32::read(bytes, at)
-}
-
-pub fn read_i32(bytes: &[u8], at: usize) -> i32
-    requires { at + 4 ≤ length bytes.now }
-    ensures { result ≡ to_z w32 (le4 bytes.now at) }
-{
-    i32::read(bytes, at)
-}
-
-pub fn read_u64(bytes: &[u8], at: usize) -> u64
-    requires { at + 8 ≤ length bytes.now }
-    ensures { result ≡ le8 bytes.now at }
-{
-    u64::read(bytes, at)
-}
-
-pub fn read_i64(bytes: &[u8], at: usize) -> i64
-    requires { at + 8 ≤ length bytes.now }
-    ensures { result ≡ to_z w64 (le8 bytes.now at) }
-{
-    i64::read(bytes, at)
-}
-
 #[tactic(auto, using(crate::proofs::Stores::copied))]
 pub fn write_four(out: &mut [u8], at: usize, four: [u8; 4])
     requires { at + 4 ≤ length out.old }
     ensures { out.new ≡ sets out.old at four }
 {
     out[at..at + 4].copy_from_slice(&four);
-}
-
-pub fn write_u32(out: &mut [u8], at: usize, v: u32)
-    requires { at + 4 ≤ length out.old }
-    ensures { out.new ≡ sets out.old at (bytes4 v) }
-{
-    v.write(out, at);
-}
-
-pub fn write_u64(out: &mut [u8], at: usize, v: u64)
-    requires { at + 8 ≤ length out.old }
-    ensures { out.new ≡ sets out.old at (bytes8 v) }
-{
-    v.write(out, at);
-}
-
-pub fn write_i32(out: &mut [u8], at: usize, v: i32)
-    requires { at + 4 ≤ length out.old }
-    ensures { out.new ≡ sets out.old at (bytes4 (of_z w32 v)) }
-{
-    v.write(out, at);
-}
-
-pub fn write_i64(out: &mut [u8], at: usize, v: i64)
-    requires { at + 8 ≤ length out.old }
-    ensures { out.new ≡ sets out.old at (bytes8 (of_z w64 v)) }
-{
-    v.write(out, at);
 }
 
 // Numbers of four bytes one after another.
