@@ -3,9 +3,9 @@
 
 ghost use Rattle.std.specs.Prelude.{◌≡◌, ◌≤◌, ◌^◌, nat_abs};
 ghost use Rattle.trig.specs.Angle.{angle_of};
-ghost use Rattle.trig.specs.Contract.{Bounded, CosineAt, SinesAt};
+ghost use Rattle.trig.specs.Contract.{Bounded, CosineAt};
 ghost use Rattle.trig.specs.ExactSine.{SineAt};
-ghost use Rattle.trig.specs.Sine.{radians, square, horner_step, series, quarter_sine, S};
+ghost use Rattle.trig.specs.Sine.{radians, square, horner_step, series, quarter_sine, S, C};
 
 // One, in units of 2^-30; as an angle, a quarter turn.
 pub const ONE: u64 = 0x4000_0000;
@@ -20,6 +20,8 @@ pub struct Sines {
     pub angle: u32,
     pub sine: i64,
     pub cosine: i64,
+    pub ghost sine_is: { sine ≡ S angle },
+    pub ghost cosine_is: { cosine ≡ C angle },
 }
 
 // The angle of some ten-thousandths of a degree.
@@ -109,6 +111,8 @@ pub fn cosine(angle: u32) -> i64
 }
 
 impl Sines {
+    ghost use Rattle.trig.specs.Sines.{SinesAt};
+
     pub fn of(angle: u32) -> Sines
         ensures { SinesAt angle result }
     {

@@ -6,6 +6,6 @@ use Rattle.position.proofs.Position.turn_xy.Goals as goal
 
 pub returns : goal.returns
 returns c =
-    let pre = c.before.before.before.before.before.requires in
-    let t = read_turned pre.0.x_within pre.0.y_within c.before.before.turned-t.ensures (search rules) (search rules) in
-    same_position t.0 t.1 (read_within pre.0.z_within tt)
+    let pre = c.requires in
+    let t = read_turned pre.x_within pre.y_within c.turned-x.ensures (search rules) (search rules) in
+    same_position t.0 t.1 (read_within pre.z_within tt)

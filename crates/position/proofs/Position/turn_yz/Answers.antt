@@ -6,6 +6,6 @@ use Rattle.position.proofs.Position.turn_yz.Goals as goal
 
 pub returns : goal.returns
 returns c =
-    let pre = c.before.before.before.before.before.requires in
-    let t = read_turned pre.0.y_within pre.0.z_within c.before.before.turned-t.ensures (search rules) (search rules) in
-    same_position (read_within pre.0.x_within tt) t.0 t.1
+    let pre = c.requires in
+    let t = read_turned pre.y_within pre.z_within c.turned-y.ensures (search rules) (search rules) in
+    same_position (read_within pre.x_within tt) t.0 t.1
