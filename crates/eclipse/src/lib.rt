@@ -7,7 +7,6 @@ ghost use Rattle.sun.specs.Contract.{WithinOne};
 ghost use Rattle.eclipse.specs.Dot.{dot_of};
 ghost use Rattle.eclipse.specs.Shade.{side_squared, below_square, shade_behind, shade_of, any_beyond, shade_answer};
 ghost use Rattle.position.specs.Box.{CelestialBox};
-ghost use Rattle.trig.specs.Contract.{SinesOf};
 ghost use Rattle.eclipse.specs.Contract.{DepthBound, RadiusBound, SpreadAt, HeldAt, NormalAt, ElevationAt};
 
 use integer::ONE;
@@ -127,7 +126,6 @@ pub fn shade_test(position: Position, sun: Direction) -> ShadeAnswer
 
 // The orbit normal.
 fn normal(inclination: Sines, node: Sines) -> Direction
-    requires { SinesOf inclination × SinesOf node }
     ensures { NormalAt inclination.angle node.angle result }
 {
     let s = inclination.sine;
@@ -154,7 +152,7 @@ fn held(sine: i64) -> i64
 // The sine of the Sun's elevation above the plane of the orbit, whose node is the drifted one. It is for labelling,
 // which has the sines of both angles for the position too, and whose Sun is within ±2^30 by the promise of `sun_at`.
 pub fn elevation(inclination: Sines, node: Sines, sun: Direction) -> i32
-    requires { SinesOf inclination × SinesOf node × WithinOne sun }
+    requires { WithinOne sun }
     ensures { ElevationAt inclination.angle node.angle sun result }
 {
     let n = normal(inclination, node);

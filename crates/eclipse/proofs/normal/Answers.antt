@@ -9,6 +9,7 @@ use Rattle.integer.proofs.Bounds.{within_mul, within_more, within_pos, within_su
 use Rattle.integer.proofs.TwosComplement.{read_back, read_within}
 use Rattle.trig.specs.Sine.{S, C}
 use Rattle.trig.proofs.Quarters.{S-within, C-within}
+use Rattle.trig.proofs.SinesOf.{sines_of}
 use Rattle.sun.specs.Sun.{scaled}
 use Rattle.sun.proofs.Bounds.{within_scaled}
 use Rattle.sun.proofs.Components.{same_direction}
@@ -19,24 +20,21 @@ use Rattle.eclipse.proofs.normal.Goals.{After-scaled-2}
 
 pub scaled-requires : goal.scaled-requires
 scaled-requires c =
-    let p = c.requires in
-    let i = p.0.sine_within in
-    let n = p.1.sine_within in
+    let i = (sines_of c.args.inclination).sine_within in
+    let n = (sines_of c.args.node).sine_within in
     rw (read_within i tt, read_within n tt) (within_more (within_mul i n) (lit≤ tt))
 
 pub scaled-requires-2 : goal.scaled-requires-2
 scaled-requires-2 c =
-    let p = c.requires in
-    let i = p.0.sine_within in
-    let n = p.1.cosine_within in
+    let i = (sines_of c.args.inclination).sine_within in
+    let n = (sines_of c.args.node).cosine_within in
     rw (read_within i tt, read_within n tt) (within_more (within_mul i n) (lit≤ tt))
 
 y_is : (c : After-scaled-2) → let a = c.args in
     to_z w64 (of_z w64 c.scaled-2.result) ≡ scaled (S a.inclination.angle) (C a.node.angle)
 y_is c =
-    let p = c.requires in
-    let i = p.0 in
-    let n = p.1 in
+    let i = sines_of c.args.inclination in
+    let n = sines_of c.args.node in
     read_back c.scaled-2.result c.scaled-2.type_inv
     ∙ rw (read_within i.sine_within tt, read_within n.cosine_within tt, i.sine_is, n.cosine_is) at c.scaled-2.ensures
 
@@ -48,9 +46,8 @@ overflow_sub-result c =
 pub returns : goal.returns
 unfolding normal_of
 returns c =
-    let p = c.requires in
-    let i = p.0 in
-    let n = p.1 in
+    let i = sines_of c.args.inclination in
+    let n = sines_of c.args.node in
     let x = c.scaled in
     normal_at
     _
