@@ -5,7 +5,7 @@ mod ellipse;
 mod turns;
 
 ghost use Rattle.std.specs.Prelude.{◌≡◌, ◌≤◌};
-ghost use Rattle.trig.specs.Contract.{SinesAt};
+ghost use Rattle.trig.specs.Sines.{SinesAt};
 ghost use Rattle.elements.specs.declared.Verdict.TheVariants.{Passed};
 ghost use Rattle.orbit.specs.Placement.{node_at};
 ghost use Rattle.elements.specs.Time.{checked_at};
@@ -78,7 +78,7 @@ fn in_plane(a: u32, e: u32, minor_axis: u32, cosine: i64, sine: i64) -> Position
 // The state at a time that passed the checks: the plane is computed once for all times, and the node
 // once for the time.
 pub fn state_at(elements: Elements, plane: Plane, node: Sines, time: i64) -> State
-    requires { (checked_at elements time ≡ Passed) × PlaneFor elements plane × SinesAt (node_at elements time) node }
+    requires { (checked_at elements time ≡ Passed) × PlaneFor elements plane × (node.angle ≡ node_at elements time) }
     ensures { StateAt elements time result }
 {
     let a = elements.semi_major_axis;

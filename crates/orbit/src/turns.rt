@@ -7,7 +7,7 @@ ghost use Rattle.std.specs.Prelude.{◌≡◌, ◌+◌, ◌*◌, ◌≤◌, ◌<
 ghost use Rattle.integer.specs.Bound.{Within};
 ghost use Rattle.integer.specs.Contract.{FloorDivided};
 ghost use Rattle.integer.specs.Division.{mod_z};
-ghost use Rattle.trig.specs.Contract.{SinesAt};
+ghost use Rattle.trig.specs.Sines.{SinesAt};
 ghost use Rattle.elements.specs.declared.Verdict.TheVariants.{Passed};
 ghost use Rattle.elements.specs.Time.{checked_at};
 ghost use Rattle.orbit.specs.Turns.{elapsed_of, linear_term, quadratic_term, drift, drifted};

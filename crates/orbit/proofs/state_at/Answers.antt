@@ -6,7 +6,7 @@ use mir.Syntax.{w32, w64}
 use mir.Val.{SFits, to_z, of_z}
 use mir.Facts.{to_z-of_z}
 use Rattle.integer.proofs.TwosComplement.{read_back, read_within}
-use Rattle.trig.specs.Contract.{SinesAt}
+use Rattle.trig.specs.Sines.{SinesAt}
 use Rattle.trig.specs.Sine.{S, C}
 use Rattle.trig.specs.declared.Sines.{Sines}
 use Rattle.kepler.specs.Contract.{AnomalyAt}
@@ -76,7 +76,7 @@ position_is c =
     let p = c.requires in
     let E = sines_at (goal.at.After-celestial c).After-of-sines in
     simp
-    (c.in_plane-in_plane.ensures.is, p.1.minor_is, cosine_is E, sine_is E, (perigee_sines (goal.at.After-celestial c).After-of-perigee).angle_is, p.1.inclination_at.angle_is, p.2.angle_is)
+    (c.in_plane-in_plane.ensures.is, p.1.minor_is, cosine_is E, sine_is E, (perigee_sines (goal.at.After-celestial c).After-of-perigee).angle_is, p.1.inclination_at.angle_is, p.2)
     at c.celestial.ensures.is
 
 pub returns : goal.returns
@@ -87,4 +87,4 @@ returns c =
     let ρ = c.radius in
     state_at el t c.requires.0
     (state_is el t (anomaly_at (goal.at.returns c).After-eccentric_anomaly-anomaly) (to_z-of_z (revolution_fits (goal.at.returns c).After-phase_at-phase) ∙ phase.revolution_is) phase.anomaly_is
-    (position_is (goal.at.returns c).After-celestial) (read_back ρ.result ρ.type_inv ∙ rw (cosine_is (sines_at (goal.at.returns c).After-of-sines)) at ρ.ensures) c.requires.2.angle_is)
+    (position_is (goal.at.returns c).After-celestial) (read_back ρ.result ρ.type_inv ∙ rw (cosine_is (sines_at (goal.at.returns c).After-of-sines)) at ρ.ensures) c.requires.2)
