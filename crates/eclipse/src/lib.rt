@@ -26,8 +26,6 @@ const RADII_APART: i64 = 689_622_000;
 
 const RADII_TOGETHER: i64 = 702_378_000;
 
-const MINUS_ONE: i64 = -ONE;
-
 #[derive(Clone, Copy)]
 pub enum ShadeAnswer {
     Shaded(Shade),
@@ -61,6 +59,7 @@ fn spread(depth: i64, radii: i64) -> i64
     depth * radii / SUN_DISTANCE
 }
 
+#[tactic(auto, unfolding(crate::specs::Shade::below_square))]
 fn below_square(squared_side: i64, radius: i64) -> bool
     requires { RadiusBound radius }
     ensures { result ≡ below_square squared_side radius }
@@ -92,23 +91,18 @@ pub fn shade_at(position: Position, sun: Direction) -> Shade
 {
     let p = dot(position.x, position.y, position.z, sun);
     if p < 0 {
-        shade_behind(0 - p, side_squared(position, p))
+        shade_behind(-p, side_squared(position, p))
     } else {
         Shade::Lit
     }
 }
 
 // Whether one of three components is beyond ±bound.
+#[tactic(auto, unfolding(crate::specs::Shade::any_beyond))]
 fn any_beyond(bound: u64, x: i64, y: i64, z: i64) -> bool
     ensures { result ≡ any_beyond bound x y z }
 {
-    if bound < integer::magnitude(x) {
-        return true;
-    }
-    if bound < integer::magnitude(y) {
-        return true;
-    }
-    bound < integer::magnitude(z)
+    bound < integer::magnitude(x) || bound < integer::magnitude(y) || bound < integer::magnitude(z)
 }
 
 // The shade test alone: of any position and Sun, or refusal 14.
@@ -131,7 +125,7 @@ fn normal(inclination: Sines, node: Sines) -> Direction
     let s = inclination.sine;
     Direction {
         x: integer::scaled(s, node.sine),
-        y: 0 - integer::scaled(s, node.cosine),
+        y: -integer::scaled(s, node.cosine),
         z: inclination.cosine,
     }
 }
@@ -140,13 +134,7 @@ fn normal(inclination: Sines, node: Sines) -> Direction
 fn held(sine: i64) -> i64
     ensures { HeldAt sine result }
 {
-    if sine < MINUS_ONE {
-        return MINUS_ONE;
-    }
-    if ONE < sine {
-        return ONE;
-    }
-    sine
+    sine.clamp(-ONE, ONE)
 }
 
 // The sine of the Sun's elevation above the plane of the orbit, whose node is the drifted one. It is for labelling,
