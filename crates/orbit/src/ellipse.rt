@@ -5,6 +5,7 @@ ghost use Rattle.integer.specs.Bound.{Within};
 ghost use Rattle.orbit.specs.Ellipse.{e30, minor_axis, in_plane_x, in_plane_y, radius};
 
 // The eccentricity in units of 2^-30.
+#[tactic(auto, unfolding(crate::specs::Ellipse::e30))]
 fn eccentricity30(e: u32) -> u64
     requires { e ≤ 9_000_000 }
     ensures { (result ≡ e30 e) × (result ≤ 966_367_641) }
@@ -13,6 +14,7 @@ fn eccentricity30(e: u32) -> u64
 }
 
 // The ratio of the minor to the major axis, in units of 2^-30.
+#[tactic(auto, using(crate::proofs::Distances::minor_le), unfolding(crate::specs::Ellipse::minor_axis))]
 pub(crate) fn minor_axis(e: u32) -> u32
     requires { e ≤ 9_000_000 }
     ensures { (result ≡ minor_axis e) × (result ≤ 2 ^ 30) }

@@ -57,6 +57,7 @@ impl Plane {
 
 // The node as drifted at a time that passed the checks. Labelling needs its sines twice: for the
 // position and for the Sun's elevation.
+#[tactic(auto, unfolding(crate::specs::Placement::node_at))]
 pub fn node_at(elements: Elements, time: i64) -> Sines
     requires { checked_at elements time ≡ Passed }
     ensures { SinesAt (node_at elements time) result }
