@@ -99,6 +99,7 @@ fn centre(mean_anomaly: u32) -> i64
     first + second
 }
 
+#[tactic(auto, unfolding(crate::specs::Sun::true_longitude))]
 fn true_longitude(mean_longitude: u32, mean_anomaly: u32) -> u32
     ensures { result ≡ true_longitude mean_longitude mean_anomaly }
 {
@@ -106,6 +107,7 @@ fn true_longitude(mean_longitude: u32, mean_anomaly: u32) -> u32
 }
 
 // GHAA. Half a turn off an angle is half a turn added to it.
+#[tactic(auto, unfolding(crate::specs::Sun::hour_angle))]
 fn hour_angle(mean_longitude: u32, time: i64) -> u32
     ensures { result ≡ hour_angle mean_longitude time }
 {
