@@ -108,6 +108,7 @@ pub(crate) fn phase_at(elements: Elements, time: i64) -> Phase
 }
 
 // The drifted angle at a time, with its sines.
+#[tactic(auto, unfolding(crate::specs::Turns::drifted))]
 pub(crate) fn drift_at(elements: Elements, time: i64, angle: u32, rate: i32) -> Sines
     requires { (checked_at elements time ≡ Passed) × Within 200_000 rate }
     ensures { SinesAt (drifted angle rate (elapsed_of elements time)) result }
