@@ -59,7 +59,6 @@ fn spread(depth: i64, radii: i64) -> i64
     depth * radii / SUN_DISTANCE
 }
 
-#[tactic(auto, unfolding(crate::specs::Shade::below_square))]
 fn below_square(squared_side: i64, radius: i64) -> bool
     requires { RadiusBound radius }
     ensures { result ≡ below_square squared_side radius }
