@@ -8,10 +8,7 @@ ghost use Rattle.digit.specs.Digit.{is_digit, digit_value};
 pub fn is_digit(byte: u8) -> bool
     ensures { result ≡ is_digit byte }
 {
-    if byte < b'0' {
-        return false;
-    }
-    byte <= b'9'
+    byte.is_ascii_digit()
 }
 
 // The number of a digit, and 0 for any other byte.
@@ -19,7 +16,7 @@ pub fn value(byte: u8) -> u64
     ensures { result ≡ digit_value byte }
 {
     if is_digit(byte) {
-        (byte - b'0') as u64
+        u64::from(byte - b'0')
     } else {
         0
     }
