@@ -1,6 +1,7 @@
 -- The layout of two-line elements: document 01, "Two-line elements". Columns count from 1. Assumes nothing.
 use Rattle.std.specs.Prelude.{ℕ, ◌+◌, ◌-◌, true, false, List, [], ◌∷◌}
 use Rattle.two_line_fields.specs.Decimals.{width}
+use Rattle.two_line_fields.specs.declared.Field.{Field}
 use Rattle.two_line_fields.specs.declared.Form.{Form}
 use Rattle.two_line_fields.specs.declared.Form.TheVariants.{Number, Year, Day, HalfDerivative, Angle, Eccentricity, MeanMotion}
 use Rattle.two_line_fields.specs.declared.Layout.{Layout}
@@ -27,10 +28,6 @@ layout_of MeanMotion = record { sign = false; ahead = 2; blanks = true; point = 
 -- ---- the fields of each line
 
 -- a field: its first column, and its form
-pub record Field : Type 0 where
-  pub column : ℕ
-  pub form : Form
-
 abbrev at : ℕ → Form → Field
 at column form = record { column = column; form = form }
 
