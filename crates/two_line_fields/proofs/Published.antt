@@ -1,7 +1,7 @@
 -- The columns are those of the published layout. Assumes nothing.
 use mathlib.Core.Path.{◌≡◌, refl}
 use mathlib.Core.List.{[], ◌∷◌, map}
-use Rattle.two_line_fields.specs.declared.Field.{Field}
+use Rattle.two_line_fields.specs.declared.columns.Field.{Field}
 use Rattle.two_line_fields.specs.Layout.{day, half_derivative, inclination, node, argument_of_perigee, mean_anomaly, mean_motion, first_line, second_line, last_column, point_column}
 
 -- line 1: 3 to 7, 19 to 20, 21 to 32, 34 to 43

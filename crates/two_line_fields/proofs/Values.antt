@@ -8,7 +8,7 @@ use native.Mathlib.Omega.{arith}
 use borrow.Author.Tests.{ltb-true, ltb-false}
 use lib.Dec.{ltb}
 use Rattle.std.specs.Prelude.{Option, unwrap_or}
-use Rattle.two_line_fields.specs.declared.Field.{Field}
+use Rattle.two_line_fields.specs.declared.columns.Field.{Field}
 use Rattle.two_line_fields.specs.declared.Form.{Form}
 use Rattle.two_line_fields.specs.declared.Form.TheVariants.{Number, Year, Day, HalfDerivative, Angle, Eccentricity, MeanMotion}
 use Rattle.two_line_fields.specs.Calendar.{full_year, days_before}
@@ -37,11 +37,11 @@ value_small line f =
     let d = decimal_of line f.column (layout_of f.form) in
     small_either (allowed line f.form (unwrap_or d 0)) d (decimal_small line f.column (layout_of f.form)) (one-le-pow (digits f.form) 10 (omega arith))
 
-pub angle_small : (line : List ℕ) (column : ℕ) → value_of line (record { column = column; form = Angle }) < 3_600_000
+pub angle_small : (line : List ℕ) (f : Field) → f.form ≡ Angle → value_of line f < 3_600_000
 unfolding field_of
-angle_small line column =
-    let d = decimal_of line column (layout_of Angle) in
-    either (ltb (unwrap_or d 0) 3_600_000) d (ltb-true (unwrap_or d 0) 3_600_000)
+angle_small line f e =
+    let d = decimal_of line f.column (layout_of Angle) in
+    rw e (either (ltb (unwrap_or d 0) 3_600_000) d (ltb-true (unwrap_or d 0) 3_600_000))
   where
     either : (t : Bool) (d : Option ℕ) → (t ≡ true → unwrap_or d 0 < 3_600_000) → unwrap_or (cond t d bad) 0 < 3_600_000
     either true d h = h refl

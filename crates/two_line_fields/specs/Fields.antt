@@ -3,7 +3,7 @@ use Rattle.std.specs.Prelude.{ℕ, ◌+◌, ◌/◌, ◌^◌, Bool, true, ◌&&�
 use Rattle.two_line_fields.specs.Calendar.{full_year, days_in}
 use Rattle.two_line_fields.specs.Decimals.{bad, decimal_of}
 use Rattle.two_line_fields.specs.Layout.{layout_of, year, first_line, second_line}
-use Rattle.two_line_fields.specs.declared.Field.{Field}
+use Rattle.two_line_fields.specs.declared.columns.Field.{Field}
 use Rattle.two_line_fields.specs.declared.Form.{Form}
 use Rattle.two_line_fields.specs.declared.Form.TheVariants.{Number, Year, Day, HalfDerivative, Angle, Eccentricity, MeanMotion}
 

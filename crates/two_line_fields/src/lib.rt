@@ -3,6 +3,7 @@
 #![tactic(auto)]
 
 mod calendar;
+mod columns;
 
 ghost use Rattle.std.specs.Prelude.{◌≡◌, ◌≤◌};
 ghost use Rattle.two_line_fields.specs.Calendar.{days_before};
@@ -10,6 +11,11 @@ ghost use Rattle.two_line_fields.specs.Contract.{Room, InLine};
 ghost use Rattle.two_line_fields.specs.Layout.{layout_of};
 ghost use Rattle.two_line_fields.specs.Decimals.{byte_of, digit_or_blank, leads_on, further, is_sign, decimal_of};
 ghost use Rattle.two_line_fields.specs.Fields.{year_of, day_allowed, allowed, field_of, value_of, place_or};
+
+pub use columns::{
+    ARGUMENT_OF_PERIGEE, DAY, ECCENTRICITY, FIRST_LINE, Field, HALF_DERIVATIVE, INCLINATION,
+    MEAN_ANOMALY, MEAN_MOTION, NODE, REVOLUTION, SATELLITE_NUMBER, SECOND_LINE, YEAR,
+};
 
 // The forms that fields have.
 #[derive(Clone, Copy)]
@@ -33,85 +39,6 @@ pub struct Layout {
     pub point: bool,
     pub behind: u32,
 }
-
-// A field: its first column, counted from 1, and its form.
-#[derive(Clone, Copy)]
-pub struct Field {
-    pub column: u32,
-    pub form: Form,
-}
-
-// On either line.
-pub const SATELLITE_NUMBER: Field = Field {
-    column: 3,
-    form: Form::Number,
-};
-
-// On line 1.
-pub const YEAR: Field = Field {
-    column: 19,
-    form: Form::Year,
-};
-
-pub const DAY: Field = Field {
-    column: 21,
-    form: Form::Day,
-};
-
-pub const HALF_DERIVATIVE: Field = Field {
-    column: 34,
-    form: Form::HalfDerivative,
-};
-
-// On line 2.
-pub const INCLINATION: Field = Field {
-    column: 9,
-    form: Form::Angle,
-};
-
-pub const NODE: Field = Field {
-    column: 18,
-    form: Form::Angle,
-};
-
-pub const ECCENTRICITY: Field = Field {
-    column: 27,
-    form: Form::Eccentricity,
-};
-
-pub const ARGUMENT_OF_PERIGEE: Field = Field {
-    column: 35,
-    form: Form::Angle,
-};
-
-pub const MEAN_ANOMALY: Field = Field {
-    column: 44,
-    form: Form::Angle,
-};
-
-pub const MEAN_MOTION: Field = Field {
-    column: 53,
-    form: Form::MeanMotion,
-};
-
-pub const REVOLUTION: Field = Field {
-    column: 64,
-    form: Form::Number,
-};
-
-// The fields of each line, from the left.
-pub const FIRST_LINE: [Field; 4] = [SATELLITE_NUMBER, YEAR, DAY, HALF_DERIVATIVE];
-
-pub const SECOND_LINE: [Field; 8] = [
-    SATELLITE_NUMBER,
-    INCLINATION,
-    NODE,
-    ECCENTRICITY,
-    ARGUMENT_OF_PERIGEE,
-    MEAN_ANOMALY,
-    MEAN_MOTION,
-    REVOLUTION,
-];
 
 fn layout_of(form: Form) -> Layout
     ensures { result ≡ layout_of form }
@@ -273,7 +200,6 @@ fn allowed(line: &[u8], form: Form, value: u64) -> bool
 // What a field holds.
 #[tactic(auto, unfolding(crate::specs::Fields::field_of))]
 fn field_of(line: &[u8], field: Field) -> Option<u64>
-    requires { (1 ≤ field.column) × (field.column ≤ 69) }
     ensures { result ≡ field_of line.now field }
 {
     let number = number_at(line, field.column, layout_of(field.form))?;
@@ -282,7 +208,6 @@ fn field_of(line: &[u8], field: Field) -> Option<u64>
 
 // The number of a field, 0 where it is bad.
 pub fn value(line: &[u8], field: Field) -> u64
-    requires { (1 ≤ field.column) × (field.column ≤ 69) }
     ensures { result ≡ value_of line.now field }
 {
     field_of(line, field).unwrap_or(0)
@@ -291,7 +216,7 @@ pub fn value(line: &[u8], field: Field) -> u64
 // The place of a bad field, or else the one that follows; the columns ahead are those of the lines ahead.
 #[tactic(auto, unfolding(crate::specs::Fields::place_or))]
 pub fn place_or(ahead: u32, line: &[u8], field: Field, later: u32) -> u32
-    requires { (ahead ≤ 69) × (1 ≤ field.column) × (field.column ≤ 69) }
+    requires { ahead ≤ 69 }
     ensures { result ≡ place_or ahead line.now field later }
 {
     if field_of(line, field).is_some() {
