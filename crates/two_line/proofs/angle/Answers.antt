@@ -1,14 +1,9 @@
 -- `two_line::angle` meets its contract. Assumes nothing.
-use mathlib.Core.Path.{ap, ◌∙◌}
 use native.Mathlib.Omega.{arith}
-use Rattle.trig.specs.Angle.{angle_of}
 use Rattle.two_line_fields.proofs.Values.{angle_small}
 use Rattle.two_line.proofs.angle.Goals as goal
 
 pub overflow_cast-value : goal.overflow_cast-value
 overflow_cast-value c =
     let a = c.args in
-    record { fits = omega (arith, c.value.ensures, angle_small a.line.now a.column) }
-
-pub returns : goal.returns
-returns c = c.angle.ensures ∙ ap angle_of c.value.ensures
+    record { fits = omega (arith, c.value.ensures, angle_small a.line.now a.field c.requires) }

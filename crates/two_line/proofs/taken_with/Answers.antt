@@ -22,4 +22,4 @@ moved_back-requires c =
 pub returns : goal.returns
 unfolding taken_with
 returns c =
-    rw (c.value.ensures, c.angle.ensures, c.angle-2.ensures, c.moved_back.ensures, c.revolution_back.ensures, c.angle-perigee.ensures, c.angle-anomaly.ensures, c.amount-amount.ensures, c.value-number.ensures, to_z-of_z c.ranges.node_rate, to_z-of_z c.ranges.perigee_rate, to_z-of_z {w = w64} (record { sfits = c.epoch.type_inv }), c.epoch.ensures, to_z-of_z {w = w32} (record { sfits = c.half_derivative.type_inv }), c.half_derivative.ensures)
+    rw (c.value.ensures, c.angle.ensures, c.angle-2.ensures, c.moved_back.ensures, c.revolution_back.ensures, c.from.ensures, c.from-2.ensures, c.angle-perigee.ensures, c.angle-anomaly.ensures, c.amount-amount.ensures, c.value-number.ensures, to_z-of_z c.ranges.node_rate, to_z-of_z c.ranges.perigee_rate, to_z-of_z {w = w64} (record { sfits = c.epoch.type_inv }), c.epoch.ensures, to_z-of_z {w = w32} (record { sfits = c.half_derivative.type_inv }), c.half_derivative.ensures)

@@ -1,7 +1,6 @@
 -- `two_line::epoch::seconds` meets its contract. Assumes nothing.
 use Prim.Native.Nat.{◌≤◌, ◌<◌, ◌/◌}
 use native.Mathlib.Omega.{arith}
-use Rattle.two_line.specs.Reading.{seconds_of}
 use Rattle.two_line_fields.proofs.Values.{year_range, days_small, day_small}
 use Rattle.two_line.proofs.Epochs.{microseconds_small}
 use Rattle.two_line.proofs.epoch.seconds.Goals as goal
@@ -24,7 +23,3 @@ pub overflow_add-result-2 : goal.overflow_add-result-2
 overflow_add-result-2 c =
     let first = c.args.first.now in
     record { fits = omega (arith, bounds (goal.at.overflow_add-result-2 c).After-value-day, c.microseconds.ensures, microseconds_small first) }
-
-pub returns : goal.returns
-unfolding seconds_of
-returns c = rw (c.days_before-before.ensures, c.value-day.ensures, c.microseconds.ensures)
