@@ -1,15 +1,17 @@
 -- How large a number an element holds, and that its type holds it. Assumes nothing.
-use mathlib.Core.Path.{◌≡◌, refl, ap}
+use mathlib.Core.Path.{◌≡◌, refl, ap, ◌∙◌}
 use mathlib.Core.Bool.{Bool, true, false, cond}
 use Prim.Native.Nat.{ℕ, zero, suc, ◌-◌, ◌^◌, ◌≤◌, ◌<◌, zero-le}
 use native.Mathlib.Nat.{le_trans, le_of_suc-le-suc}
 use native.Mathlib.Omega.{arith}
-use borrow.Author.Tests.{eqb-true}
-use lib.Dec.{eqb, lit≤}
+use borrow.Author.Tests.{eqb-true, ltb-true, ltb-false}
+use lib.Dec.{eqb, ltb, lit≤}
 use lib.IntN.{pos, negsuc, neg_ℤ}
 use lib.Signed.{mag}
 use mir.Syntax.{Width, w32, w64}
-use mir.Val.{hbits, SFits}
+use mir.Val.{hbits, SFits, to_z}
+use Rattle.std.specs.Int.{int_wrapping_neg}
+use Rattle.std.proofs.lemmas.Int.{ints, wrapping_neg_is, int_wrap_fits}
 use Rattle.elements_file.specs.Numbers.{largest, is_rate, is_epoch, signed_of}
 use Rattle.elements_file.specs.declared.number.Number.{Number}
 
@@ -76,3 +78,19 @@ fits_epoch element n h t = fits_signed w64 (2 ^ 63 - 1) n refl (rw (eqb-true ele
 pub below_zero : (m : ℕ) → (m ≡ 0 → ⊥) → negsuc (m - 1) ≡ neg_ℤ (pos m)
 below_zero zero h = absurd (h refl)
 below_zero (suc m) h = ap negsuc (omega arith)
+
+-- the magnitude's bits, with which the lowest number has its own, negated
+pub negated : (m : ℕ) → m ≤ 2 ^ 63 → int_wrapping_neg w64 (to_z w64 m) ≡ neg_ℤ (pos m)
+negated m h = go (ltb m (2 ^ 63)) (ltb-true m (2 ^ 63)) (ltb-false m (2 ^ 63))
+  where
+    go : (t : Bool) → (t ≡ true → m < 2 ^ 63) → (t ≡ false → 2 ^ 63 ≤ m) → int_wrapping_neg w64 (to_z w64 m) ≡ neg_ℤ (pos m)
+    go true y n =
+        let l = y refl in
+        let held : to_z w64 m ≡ pos m = omega (arith, ints) in
+        let f : SFits w64 (pos m) = omega (arith, ints) in
+        let g : SFits w64 (neg_ℤ (pos m)) = omega (arith, ints) in
+        rw held (wrapping_neg_is w64 (pos m) f ∙ int_wrap_fits w64 (neg_ℤ (pos m)) g)
+    go false y n =
+        let l = n refl in
+        let e : m ≡ 2 ^ 63 = omega arith in
+        rw e refl

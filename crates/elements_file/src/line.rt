@@ -67,7 +67,7 @@ fn valued(element: u32, number: Number, byte: u8) -> Place
     ensures { result ≡ valued element number byte }
 {
     if digit::is_digit(byte) {
-        return counted(element, number, (byte - b'0') as u64);
+        return counted(element, number, u64::from(byte - b'0'));
     }
     if byte == b'-' {
         if number.takes_minus(element) {

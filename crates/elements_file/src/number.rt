@@ -13,10 +13,7 @@ pub struct Number {
 fn is_rate(element: u32) -> bool
     ensures { result ≡ is_rate element }
 {
-    if element == 7 {
-        return true;
-    }
-    element == 8 || element == 11
+    matches!(element, 7 | 8 | 11)
 }
 
 // The largest magnitude that an element holds.
@@ -45,16 +42,7 @@ impl Number {
     pub(crate) fn takes_minus(self, element: u32) -> bool
         ensures { result ≡ takes_minus element self }
     {
-        if self.negative {
-            return false;
-        }
-        if self.digits {
-            return false;
-        }
-        if is_rate(element) {
-            return true;
-        }
-        element == 10
+        !self.negative && !self.digits && (is_rate(element) || element == 10)
     }
 
     // The number with its sign. A number is read as far as its element holds it, and 64 bits hold every
@@ -65,11 +53,9 @@ impl Number {
         ensures { result ≡ signed_of self }
     {
         if self.negative {
-            if self.magnitude == 0 {
-                return 0;
-            }
-            return -1 - ((self.magnitude - 1) as i64);
+            self.magnitude.cast_signed().wrapping_neg()
+        } else {
+            self.magnitude as i64
         }
-        self.magnitude as i64
     }
 }
