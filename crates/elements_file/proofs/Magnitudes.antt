@@ -12,7 +12,7 @@ use mir.Syntax.{Width, w32, w64}
 use mir.Val.{hbits, SFits, to_z}
 use Rattle.std.specs.Int.{int_wrapping_neg}
 use Rattle.std.proofs.lemmas.Int.{ints, wrapping_neg_is, int_wrap_fits}
-use Rattle.elements_file.specs.Numbers.{largest, is_rate, is_epoch, signed_of}
+use Rattle.elements_file.specs.Numbers.{largest, magnitude_of, is_rate, is_epoch, signed_of}
 use Rattle.elements_file.specs.declared.number.Number.{Number}
 
 -- the epoch holds the most, and no element less than a digit
@@ -61,17 +61,17 @@ mag_signed b m false h = h
 mag_signed b zero true h = zero-le
 mag_signed b (suc m) true h = le_of_suc-le-suc h
 
-fits_signed : (w : Width) (b : ℕ) (n : Number) → 2 ^ hbits w ≡ suc b → n.magnitude ≤ cond n.negative (suc b) b → SFits w (signed_of n)
+fits_signed : (w : Width) (b : ℕ) (n : Number) → 2 ^ hbits w ≡ suc b → magnitude_of n ≤ cond n.negative (suc b) b → SFits w (signed_of n)
 unfolding signed_of
 fits_signed w b n half h =
-    let h' = mag_signed b n.magnitude n.negative h in
+    let h' = mag_signed b (magnitude_of n) n.negative h in
     record { sfits = omega arith }
 
-pub fits_rate : (k element : ℕ) (n : Number) → is_epoch k ≡ false → is_rate k ≡ true → n.magnitude ≤ largest element n.negative → eqb element k ≡ true → SFits w32 (signed_of n)
+pub fits_rate : (k element : ℕ) (n : Number) → is_epoch k ≡ false → is_rate k ≡ true → magnitude_of n ≤ largest element n.negative → eqb element k ≡ true → SFits w32 (signed_of n)
 unfolding largest
 fits_rate k element n e r h t = fits_signed w32 (2 ^ 31 - 1) n refl (rw (eqb-true element k t, e, r) at h)
 
-pub fits_epoch : (element : ℕ) (n : Number) → n.magnitude ≤ largest element n.negative → eqb element 10 ≡ true → SFits w64 (signed_of n)
+pub fits_epoch : (element : ℕ) (n : Number) → magnitude_of n ≤ largest element n.negative → eqb element 10 ≡ true → SFits w64 (signed_of n)
 unfolding largest
 fits_epoch element n h t = fits_signed w64 (2 ^ 63 - 1) n refl (rw (eqb-true element 10 t) at h)
 

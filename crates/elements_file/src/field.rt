@@ -1,6 +1,6 @@
 // The elements with one of them read.
 ghost use Rattle.std.specs.Prelude.{◌≡◌, ◌≤◌};
-ghost use Rattle.elements_file.specs.Numbers.{largest};
+ghost use Rattle.elements_file.specs.Numbers.{largest, magnitude_of};
 ghost use Rattle.elements_file.specs.Fields.{stored};
 
 use crate::number::Number;
@@ -10,36 +10,36 @@ use elements::Elements;
 // read so far only.
 #[tactic(auto, unfolding(crate::specs::Fields::stored, crate::specs::Numbers::largest))]
 pub(crate) fn stored(elements: Elements, element: u32, number: Number) -> Elements
-    requires { number.magnitude ≤ largest element number.negative }
+    requires { magnitude_of number ≤ largest element number.negative }
     ensures { result ≡ stored elements element number }
 {
     match element {
         0 => Elements {
-            eccentricity: number.magnitude as u32,
+            eccentricity: number.magnitude() as u32,
             ..elements
         },
         1 => Elements {
-            semi_major_axis: number.magnitude as u32,
+            semi_major_axis: number.magnitude() as u32,
             ..elements
         },
         2 => Elements {
-            inclination: number.magnitude as u32,
+            inclination: number.magnitude() as u32,
             ..elements
         },
         3 => Elements {
-            node: number.magnitude as u32,
+            node: number.magnitude() as u32,
             ..elements
         },
         4 => Elements {
-            argument_of_perigee: number.magnitude as u32,
+            argument_of_perigee: number.magnitude() as u32,
             ..elements
         },
         5 => Elements {
-            mean_anomaly: number.magnitude as u32,
+            mean_anomaly: number.magnitude() as u32,
             ..elements
         },
         6 => Elements {
-            mean_motion: number.magnitude as u32,
+            mean_motion: number.magnitude() as u32,
             ..elements
         },
         7 => Elements {
@@ -51,7 +51,7 @@ pub(crate) fn stored(elements: Elements, element: u32, number: Number) -> Elemen
             ..elements
         },
         9 => Elements {
-            epoch_revolution: number.magnitude as u32,
+            epoch_revolution: number.magnitude() as u32,
             ..elements
         },
         10 => Elements {

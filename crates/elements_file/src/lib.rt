@@ -110,7 +110,7 @@ fn ended(s: Progress) -> Progress
         Place::Start | Place::Comment => next_line(s),
         Place::Named(_) => at(s, Place::Faulty(Fault::Name)),
         Place::Value(number) => {
-            if number.digits {
+            if number.magnitude.is_some() {
                 next_element(s, number)
             } else {
                 at(s, Place::Faulty(Fault::NotWhole))

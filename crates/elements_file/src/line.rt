@@ -39,8 +39,7 @@ fn named(element: u32, k: usize, byte: u8) -> Place
     if byte == b' ' {
         return Place::Value(Number {
             negative: false,
-            digits: false,
-            magnitude: 0,
+            magnitude: None,
         });
     }
     Place::Named(k + 1)
@@ -51,14 +50,13 @@ fn counted(element: u32, number: Number, digit: u64) -> Place
     requires { digit ≤ 9 }
     ensures { result ≡ counted element (grown number digit) }
 {
-    let magnitude = number.magnitude;
+    let magnitude = number.magnitude();
     if (number::largest(element, number.negative) - digit) / 10 < magnitude {
         return Place::Faulty(Fault::TooLarge);
     }
     Place::Value(Number {
         negative: number.negative,
-        digits: true,
-        magnitude: 10 * magnitude + digit,
+        magnitude: Some(10 * magnitude + digit),
     })
 }
 
@@ -73,8 +71,7 @@ fn valued(element: u32, number: Number, byte: u8) -> Place
         if number.takes_minus(element) {
             return Place::Value(Number {
                 negative: true,
-                digits: false,
-                magnitude: 0,
+                magnitude: None,
             });
         }
         return Place::Faulty(Fault::NotWhole);

@@ -1,13 +1,12 @@
 // Numbers as an elements file writes them.
 ghost use Rattle.std.specs.Prelude.{◌≡◌, ◌≤◌};
-ghost use Rattle.elements_file.specs.Numbers.{is_rate, takes_minus, largest, signed_of};
+ghost use Rattle.elements_file.specs.Numbers.{is_rate, magnitude_of, takes_minus, largest, signed_of};
 
-// A minus or none, whether a digit stands yet, and the digits' number.
+// A minus or none, and the digits' number, once a digit stands.
 #[derive(Clone, Copy)]
 pub struct Number {
     pub negative: bool,
-    pub digits: bool,
-    pub magnitude: u64,
+    pub magnitude: Option<u64>,
 }
 
 fn is_rate(element: u32) -> bool
@@ -37,25 +36,32 @@ pub(crate) fn largest(element: u32, negative: bool) -> u64
 }
 
 impl Number {
+    pub(crate) fn magnitude(self) -> u64
+        ensures { result ≡ magnitude_of self }
+    {
+        self.magnitude.unwrap_or(0)
+    }
+
     // Whether a minus may stand next.
     #[tactic(auto, unfolding(crate::specs::Numbers::takes_minus))]
     pub(crate) fn takes_minus(self, element: u32) -> bool
         ensures { result ≡ takes_minus element self }
     {
-        !self.negative && !self.digits && (is_rate(element) || element == 10)
+        !self.negative && self.magnitude.is_none() && (is_rate(element) || element == 10)
     }
 
     // The number with its sign. A number is read as far as its element holds it, and 64 bits hold every
     // element: this is what the `requires` asks.
     #[tactic(auto, unfolding(crate::specs::Numbers::signed_of))]
     pub(crate) fn signed(self) -> i64
-        requires { self.magnitude ≤ largest 10 self.negative }
+        requires { magnitude_of self ≤ largest 10 self.negative }
         ensures { result ≡ signed_of self }
     {
+        let magnitude = self.magnitude();
         if self.negative {
-            self.magnitude.cast_signed().wrapping_neg()
+            magnitude.cast_signed().wrapping_neg()
         } else {
-            self.magnitude as i64
+            magnitude as i64
         }
     }
 }
