@@ -1,12 +1,12 @@
 -- How large a number an element holds, and that its type holds it. Assumes nothing.
-use mathlib.Core.Path.{◌≡◌, refl, ap, ◌∙◌}
+use mathlib.Core.Path.{◌≡◌, refl, ◌∙◌}
 use mathlib.Core.Bool.{Bool, true, false, cond}
 use Prim.Native.Nat.{ℕ, zero, suc, ◌-◌, ◌^◌, ◌≤◌, ◌<◌, zero-le}
 use native.Mathlib.Nat.{le_trans, le_of_suc-le-suc}
 use native.Mathlib.Omega.{arith}
 use borrow.Author.Tests.{eqb-true, ltb-true, ltb-false}
 use lib.Dec.{eqb, ltb, lit≤}
-use lib.IntN.{pos, negsuc, neg_ℤ}
+use lib.IntN.{pos, neg_ℤ}
 use lib.Signed.{mag}
 use mir.Syntax.{Width, w32, w64}
 use mir.Val.{hbits, SFits, to_z}
@@ -74,10 +74,6 @@ fits_rate k element n e r h t = fits_signed w32 (2 ^ 31 - 1) n refl (rw (eqb-tru
 pub fits_epoch : (element : ℕ) (n : Number) → magnitude_of n ≤ largest element n.negative → eqb element 10 ≡ true → SFits w64 (signed_of n)
 unfolding largest
 fits_epoch element n h t = fits_signed w64 (2 ^ 63 - 1) n refl (rw (eqb-true element 10 t) at h)
-
-pub below_zero : (m : ℕ) → (m ≡ 0 → ⊥) → negsuc (m - 1) ≡ neg_ℤ (pos m)
-below_zero zero h = absurd (h refl)
-below_zero (suc m) h = ap negsuc (omega arith)
 
 -- the magnitude's bits, with which the lowest number has its own, negated
 pub negated : (m : ℕ) → m ≤ 2 ^ 63 → int_wrapping_neg w64 (to_z w64 m) ≡ neg_ℤ (pos m)

@@ -1,5 +1,5 @@
 -- Numbers as an elements file writes them, and what each element holds. Assumes nothing.
-use Rattle.std.specs.Prelude.{ℕ, ◌+◌, ◌*◌, ◌-◌, ◌^◌, Bool, true, false, ◌||◌, ◌&&◌, not, cond, eqb, Option, Some, None, is_none, unwrap_or, ℤ, pos, neg_ℤ}
+use Rattle.std.specs.Prelude.{ℕ, ◌+◌, ◌*◌, ◌-◌, ◌^◌, Bool, true, false, ◌||◌, ◌&&◌, not, cond, eqb, Some, None, is_none, unwrap_or, ℤ, pos, neg_ℤ}
 use Rattle.elements_file.specs.declared.number.Number.{Number}
 
 -- the drift rates of the node and of the perigee, and half the derivative of the mean motion, in 32 bits

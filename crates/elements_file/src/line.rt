@@ -45,7 +45,7 @@ fn named(element: u32, k: usize, byte: u8) -> Place
     Place::Named(k + 1)
 }
 
-#[tactic(auto, unfolding(crate::specs::Lines::counted))]
+#[tactic(auto, using(crate::proofs::Magnitudes::largest_digit), unfolding(crate::specs::Lines::counted))]
 fn counted(element: u32, number: Number, digit: u64) -> Place
     requires { digit ≤ 9 }
     ensures { result ≡ counted element (grown number digit) }

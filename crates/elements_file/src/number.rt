@@ -20,19 +20,15 @@ fn is_rate(element: u32) -> bool
 pub(crate) fn largest(element: u32, negative: bool) -> u64
     ensures { result ≡ largest element negative }
 {
+    // There is one more number below zero than above it.
+    let more = u64::from(negative);
     if element == 10 {
-        if negative {
-            return 0x8000_0000_0000_0000;
-        }
-        return 0x7fff_ffff_ffff_ffff;
+        0x7fff_ffff_ffff_ffff + more
+    } else if is_rate(element) {
+        0x7fff_ffff + more
+    } else {
+        0xffff_ffff
     }
-    if is_rate(element) {
-        if negative {
-            return 0x8000_0000;
-        }
-        return 0x7fff_ffff;
-    }
-    0xffff_ffff
 }
 
 impl Number {
