@@ -13,7 +13,7 @@ fn microseconds(first: &[u8]) -> u64
 }
 
 // The full seconds from 1957 Jan 0.0.
-#[tactic(auto, unfolding(crate::specs::Reading::seconds_of))]
+#[tactic(auto, using(two_line_fields::proofs::Values::year_range, two_line_fields::proofs::Values::days_small, two_line_fields::proofs::Values::day_small, crate::proofs::Epochs::microseconds_small), unfolding(crate::specs::Reading::seconds_of))]
 fn seconds(first: &[u8]) -> u64
     ensures { result ≡ seconds_of first.now }
 {

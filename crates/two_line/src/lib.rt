@@ -66,6 +66,7 @@ fn mean_motion(second: &[u8]) -> u32
     u32::try_from(two_line_fields::value(second, MEAN_MOTION)).unwrap_or(u32::MAX)
 }
 
+#[tactic(auto, using(two_line_fields::proofs::Values::angle_small))]
 fn angle(line: &[u8], field: Field) -> u32
     requires { field.form ≡ Angle }
     ensures { result ≡ angle_of (value_of line.now field) }
@@ -74,7 +75,7 @@ fn angle(line: &[u8], field: Field) -> u32
 }
 
 // The elements of two lines, with the mean motion n.
-#[tactic(auto, unfolding(crate::specs::Reading::taken_with))]
+#[tactic(auto, using(two_line_fields::proofs::Values::value_small, crate::proofs::Epochs::amount_small), unfolding(crate::specs::Reading::taken_with))]
 fn taken_with(
     n: u32,
     first: &[u8],

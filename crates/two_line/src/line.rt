@@ -19,7 +19,7 @@ fn weight(byte: u8) -> u64
 }
 
 // Whether column 69 has the checksum of those ahead of it.
-#[tactic(auto, unfolding(crate::specs::Lines::checksum_holds))]
+#[tactic(auto, using(crate::proofs::Checksums::weight_small, crate::proofs::Checksums::weight_to_small), unfolding(crate::specs::Lines::checksum_holds))]
 pub(crate) fn checksum_holds(line: &[u8]) -> bool
     ensures { result ≡ checksum_holds line.now }
 {

@@ -1,23 +1,8 @@
 -- `two_line::taken_with` meets its contract. Assumes nothing.
-use native.Mathlib.Omega.{arith}
-use borrow.Author.Rules.{rules}
 use mir.Syntax.{w32, w64}
 use mir.Facts.{to_z-of_z}
-use Rattle.two_line_fields.specs.Layout.{eccentricity, revolution}
 use Rattle.two_line.specs.Reading.{taken_with}
-use Rattle.two_line_fields.proofs.Values.{value_small}
-use Rattle.two_line.proofs.Epochs.{amount_small}
 use Rattle.two_line.proofs.taken_with.Goals as goal
-
-pub overflow_cast-number : goal.overflow_cast-number
-overflow_cast-number c = record { fits = omega (arith, c.value-number.ensures, value_small c.args.second.now revolution) }
-
-pub overflow_cast-result : goal.overflow_cast-result
-overflow_cast-result c = record { fits = omega (arith, c.value.ensures, value_small c.args.second.now eccentricity) }
-
-pub moved_back-requires : goal.moved_back-requires
-moved_back-requires c =
-    rw c.amount-amount.ensures (amount_small c.args.n c.args.first.now (search rules))
 
 pub returns : goal.returns
 unfolding taken_with
