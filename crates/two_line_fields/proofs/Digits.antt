@@ -49,6 +49,9 @@ room_behind m d columns i b h l r =
     let left : columns - i ≡ suc (columns - (i + 1)) = omega arith in
     le_trans (digit_behind m d (columns - (i + 1)) l) (rw left at r)
 
+-- what one column does
+pub ruleset column_laws = (column_taken, column_bad, all_taken, room_behind, digit_small)
+
 pub room_for_one : (m n b : ℕ) → 0 < n → (m + 1) * 10 ^ n ≤ b → (m + 1) * 10 ≤ b
 room_for_one m zero b l r = elim l [ ]
 room_for_one m (suc n) b l r =

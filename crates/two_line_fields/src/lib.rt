@@ -121,7 +121,7 @@ fn leads_on(leading: bool, byte: u8) -> bool
 
 // What some columns make of the number ahead of them. Room for their digits is what the `requires` asks: the
 // layouts have 11 at most.
-#[tactic(auto, using(crate::proofs::Digits::column_taken, crate::proofs::Digits::column_bad, crate::proofs::Digits::all_taken, crate::proofs::Digits::room_behind, digit::proofs::Range::digit_small))]
+#[tactic(auto, using(crate::proofs::Digits::column_laws))]
 fn further(line: &[u8], column: u32, columns: u32, blanks: bool, ahead: u64) -> Option<u64>
     requires { Room column columns ahead }
     ensures { result ≡ further line.now column columns blanks ahead }
