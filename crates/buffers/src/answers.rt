@@ -9,12 +9,14 @@ ghost use Rattle.integer.specs.Bound.{Within};
 ghost use Rattle.sun.specs.Contract.{WithinOne};
 ghost use Rattle.buffers.specs.Answers.{anomaly_bytes, sun_bytes, position_bytes, state_bytes, counts_bytes, read_bytes, add_bytes, salvage_bytes, found_bytes};
 
+use endian::LittleEndian;
 use kepler::Anomaly;
 use orbit::State;
 use position::Position;
 use sun::Sun;
 use trailer::{Counts, Form};
 
+#[tactic(auto, using(endian::proofs::Words::words_fill), unfolding(crate::specs::Answers::anomaly_bytes))]
 pub fn write_anomaly(answer: &mut [u8], anomaly: Anomaly)
     requires { length answer.old ≡ 8 }
     ensures { answer.new ≡ anomaly_bytes anomaly }
@@ -24,6 +26,7 @@ pub fn write_anomaly(answer: &mut [u8], anomaly: Anomaly)
 }
 
 // A direction's components are within the range of 32 bits.
+#[tactic(auto, using(integer::proofs::Bounds::sfits_within))]
 fn component_bits(component: i64) -> u32
     requires { Within (2 ^ 30) component }
     ensures { result ≡ of_z w32 component }
@@ -31,6 +34,7 @@ fn component_bits(component: i64) -> u32
     integer::bits_of_i32(component as i32)
 }
 
+#[tactic(auto, using(endian::proofs::Words::words_fill), unfolding(crate::specs::Answers::sun_bytes))]
 pub fn write_sun(answer: &mut [u8], sun: Sun)
     requires { (length answer.old ≡ 28) × WithinOne sun.direction }
     ensures { answer.new ≡ sun_bytes sun }
@@ -48,13 +52,14 @@ pub fn write_sun(answer: &mut [u8], sun: Sun)
     endian::write_words(answer, 0, &numbers);
 }
 
+#[tactic(auto, using(endian::proofs::Stores::then), unfolding(crate::specs::Answers::position_bytes, endian::specs::LittleEndian::bytes8, endian::specs::LittleEndian::bytes4))]
 fn write_position(answer: &mut [u8], at: usize, position: Position)
     requires { at + 24 ≤ length answer.old }
     ensures { answer.new ≡ sets answer.old at (position_bytes position) }
 {
-    endian::write_i64(answer, at, position.x);
-    endian::write_i64(answer, at + 8, position.y);
-    endian::write_i64(answer, at + 16, position.z);
+    position.x.write(answer, at);
+    position.y.write(answer, at + 8);
+    position.z.write(answer, at + 16);
 }
 
 // The radius is at most that of the highest apogee.
@@ -71,10 +76,11 @@ pub fn write_state(answer: &mut [u8], state: State, earth_fixed: Position)
     ];
     endian::write_words(answer, 0, &numbers);
     write_position(answer, 16, state.position);
-    endian::write_u32(answer, 40, state.node);
+    state.node.write(answer, 40);
     write_position(answer, 44, earth_fixed);
 }
 
+#[tactic(auto, unfolding(crate::specs::Answers::counts_bytes))]
 pub fn write_counts(answer: &mut [u8], at: usize, counts: Counts)
     requires { at + 20 ≤ length answer.old }
     ensures { answer.new ≡ sets answer.old at (counts_bytes counts) }
@@ -94,43 +100,47 @@ pub fn write_reading(answer: &mut [u8], form: Form, counts: Counts)
     ensures { answer.new ≡ read_bytes form counts }
 {
     write_counts(answer, 0, counts);
-    endian::write_u32(answer, 20, form.size() as u32);
+    (form.size() as u32).write(answer, 20);
 }
 
 pub fn write_adding(answer: &mut [u8], counts: Counts, size: usize)
     requires { length answer.old ≡ 28 }
     ensures { answer.new ≡ add_bytes counts size }
 {
-    endian::write_u64(answer, 0, size as u64);
+    (size as u64).write(answer, 0);
     write_counts(answer, 8, counts);
 }
 
+#[tactic(auto, using(endian::proofs::Stores::then, endian::proofs::Stores::over_all), unfolding(crate::specs::Answers::salvage_bytes, endian::specs::LittleEndian::bytes8, endian::specs::LittleEndian::bytes4))]
 pub fn write_salvage(answer: &mut [u8], labels: u32, dropped: usize)
     requires { length answer.old ≡ 12 }
     ensures { answer.new ≡ salvage_bytes labels dropped }
 {
-    endian::write_u32(answer, 0, labels);
-    endian::write_u64(answer, 4, dropped as u64);
+    labels.write(answer, 0);
+    (dropped as u64).write(answer, 4);
 }
 
+#[tactic(auto, using(endian::proofs::Stores::over_all), unfolding(endian::specs::LittleEndian::bytes4))]
 pub fn write_figure(answer: &mut [u8], figure: u32)
     requires { length answer.old ≡ 4 }
     ensures { answer.new ≡ bytes4 figure }
 {
-    endian::write_u32(answer, 0, figure);
+    figure.write(answer, 0);
 }
 
+#[tactic(auto, using(endian::proofs::Stores::then, endian::proofs::Stores::over_all), unfolding(crate::specs::Answers::found_bytes, endian::specs::LittleEndian::bytes8, endian::specs::LittleEndian::bytes4))]
 pub fn write_found(answer: &mut [u8], offset: usize, table: u32)
     requires { length answer.old ≡ 12 }
     ensures { answer.new ≡ found_bytes offset table }
 {
-    endian::write_u64(answer, 0, offset as u64);
-    endian::write_u32(answer, 8, table);
+    (offset as u64).write(answer, 0);
+    table.write(answer, 8);
 }
 
+#[tactic(auto, using(endian::proofs::Stores::over_all), unfolding(endian::specs::LittleEndian::bytes8, endian::specs::LittleEndian::bytes4))]
 pub fn write_size(answer: &mut [u8], size: usize)
     requires { length answer.old ≡ 8 }
     ensures { answer.new ≡ bytes8 size }
 {
-    endian::write_u64(answer, 0, size as u64);
+    (size as u64).write(answer, 0);
 }

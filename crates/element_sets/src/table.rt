@@ -5,6 +5,7 @@ ghost use Rattle.element_sets.specs.Table.{row_size, set_at, epoch_at, follows, 
 
 use elements::Elements;
 use elements_buffer::SIZE;
+use endian::LittleEndian;
 
 // How many sets have an epoch before a time, and how many one not after it.
 #[derive(Clone, Copy)]
@@ -37,7 +38,7 @@ fn epoch_at(table: &[u8], k: usize) -> i64
     requires { row_size * k + row_size ≤ length table.now }
     ensures { result ≡ epoch_at table.now k }
 {
-    endian::read_i64(table, SIZE * k)
+    i64::read(table, SIZE * k)
 }
 
 // Whether the epoch of row k, which the table has, is after that of the row before.

@@ -6,6 +6,7 @@ ghost use Rattle.std.proofs.lemmas.List.Edits.{sets};
 ghost use Rattle.elements_buffer.specs.Buffer.{elements_of, elements_bytes};
 
 use elements::Elements;
+use endian::LittleEndian;
 
 pub const SIZE: usize = 52;
 
@@ -16,18 +17,18 @@ pub fn read_elements(bytes: &[u8]) -> Elements
     ensures { result ≡ elements_of bytes.now }
 {
     Elements {
-        epoch: endian::read_i64(bytes, 0),
-        eccentricity: endian::read_u32(bytes, 8),
-        semi_major_axis: endian::read_u32(bytes, 12),
-        inclination: endian::read_u32(bytes, 16),
-        node: endian::read_u32(bytes, 20),
-        argument_of_perigee: endian::read_u32(bytes, 24),
-        mean_anomaly: endian::read_u32(bytes, 28),
-        mean_motion: endian::read_u32(bytes, 32),
-        node_rate: endian::read_i32(bytes, 36),
-        perigee_rate: endian::read_i32(bytes, 40),
-        epoch_revolution: endian::read_u32(bytes, 44),
-        half_mean_motion_derivative: endian::read_i32(bytes, 48),
+        epoch: i64::read(bytes, 0),
+        eccentricity: u32::read(bytes, 8),
+        semi_major_axis: u32::read(bytes, 12),
+        inclination: u32::read(bytes, 16),
+        node: u32::read(bytes, 20),
+        argument_of_perigee: u32::read(bytes, 24),
+        mean_anomaly: u32::read(bytes, 28),
+        mean_motion: u32::read(bytes, 32),
+        node_rate: i32::read(bytes, 36),
+        perigee_rate: i32::read(bytes, 40),
+        epoch_revolution: u32::read(bytes, 44),
+        half_mean_motion_derivative: i32::read(bytes, 48),
     }
 }
 
@@ -49,6 +50,6 @@ pub fn write_elements(buffer: &mut [u8], at: usize, elements: Elements)
         elements.epoch_revolution,
         integer::bits_of_i32(elements.half_mean_motion_derivative),
     ];
-    endian::write_i64(buffer, at, elements.epoch);
+    elements.epoch.write(buffer, at);
     endian::write_words(buffer, at + 8, &numbers);
 }

@@ -5,50 +5,50 @@ ghost use Rattle.std.specs.Prelude.{◌≡◌, ◌+◌, ◌≤◌, length};
 ghost use Rattle.std.proofs.lemmas.List.Edits.{sets};
 ghost use Rattle.figures_buffer.specs.FigureBytes.{extreme_at, figures_in, extreme_bytes, figures_bytes};
 
+use endian::LittleEndian;
 use scale::Figures;
 use telemetry::float;
 
+#[tactic(auto, unfolding(crate::specs::FigureBytes::extreme_at))]
 fn read_extreme(buffer: &[u8], at: usize) -> Option<f32>
     requires { at + 8 ≤ length buffer.now }
     ensures { result ≡ extreme_at buffer.now at }
 {
-    if endian::read_u32(buffer, at) == 0 {
-        return None;
+    if u32::read(buffer, at) == 0 {
+        None
+    } else {
+        Some(float::of_bits(u32::read(buffer, at + 4)))
     }
-    Some(float::of_bits(endian::read_u32(buffer, at + 4)))
 }
 
 // The figures in a buffer whose length is found to be the header's.
+#[tactic(auto, unfolding(crate::specs::FigureBytes::figures_in))]
 pub fn read_figures(buffer: &[u8]) -> Figures
     requires { length buffer.now ≡ 48 }
     ensures { result ≡ figures_in buffer.now }
 {
     Figures {
-        files: endian::read_u32(buffer, 0),
-        labels: endian::read_u32(buffer, 4),
-        dark: endian::read_u32(buffer, 8),
-        valid: endian::read_u32(buffer, 12),
+        files: u32::read(buffer, 0),
+        labels: u32::read(buffer, 4),
+        dark: u32::read(buffer, 8),
+        valid: u32::read(buffer, 12),
         least: read_extreme(buffer, 16),
         greatest: read_extreme(buffer, 24),
-        sines: endian::read_i64(buffer, 32),
-        squares: endian::read_u64(buffer, 40),
+        sines: i64::read(buffer, 32),
+        squares: u64::read(buffer, 40),
     }
 }
 
+#[tactic(auto, unfolding(endian::specs::LittleEndian::words))]
 fn write_extreme(buffer: &mut [u8], at: usize, extreme: Option<f32>)
     requires { at + 8 ≤ length buffer.old }
     ensures { buffer.new ≡ sets buffer.old at (extreme_bytes extreme) }
 {
-    match extreme {
-        None => {
-            endian::write_u32(buffer, at, 0);
-            endian::write_u32(buffer, at + 4, 0);
-        }
-        Some(x) => {
-            endian::write_u32(buffer, at, 1);
-            endian::write_u32(buffer, at + 4, float::bits_of(x));
-        }
-    }
+    let numbers = match extreme {
+        None => [0, 0],
+        Some(x) => [1, float::bits_of(x)],
+    };
+    endian::write_words(buffer, at, &numbers);
 }
 
 // Fills a buffer whose length is found to be the header's.
@@ -56,12 +56,10 @@ pub fn write_figures(buffer: &mut [u8], figures: Figures)
     requires { length buffer.old ≡ 48 }
     ensures { buffer.new ≡ figures_bytes figures }
 {
-    endian::write_u32(buffer, 0, figures.files);
-    endian::write_u32(buffer, 4, figures.labels);
-    endian::write_u32(buffer, 8, figures.dark);
-    endian::write_u32(buffer, 12, figures.valid);
+    let counts = [figures.files, figures.labels, figures.dark, figures.valid];
+    endian::write_words(buffer, 0, &counts);
     write_extreme(buffer, 16, figures.least);
     write_extreme(buffer, 24, figures.greatest);
-    endian::write_i64(buffer, 32, figures.sines);
-    endian::write_u64(buffer, 40, figures.squares);
+    figures.sines.write(buffer, 32);
+    figures.squares.write(buffer, 40);
 }

@@ -1,6 +1,5 @@
 pub mod RuleCases
 pub mod ShadeCodes
-pub mod Records
 pub mod Stored
 pub mod ByteLists
 pub mod FieldBytes

@@ -7,12 +7,18 @@ ghost use Rattle.label.specs.Sides.{side_of};
 ghost use Rattle.label.specs.Layout.{label_size, label_bytes, fields_at, label_of};
 ghost use Rattle.label.specs.Codec.{decoded};
 
+use endian::LittleEndian;
 use telemetry::Reading;
 
 mod fields;
 mod rules;
 
 pub const SIZE: usize = 24;
+
+// The sides of a label, besides 0 for withheld.
+pub const TRAINING: u8 = 1;
+
+pub const TEST: u8 = 2;
 
 #[derive(Clone, Copy)]
 pub struct Label {
@@ -26,6 +32,7 @@ pub struct Label {
 
 // A revolution moved up by a multiple of 80, the least that leaves none below zero: its side is the same,
 // and its divisions need no sign.
+#[tactic(auto, using(crate::proofs::Shifted::moved_up))]
 fn moved_up(revolution: i32) -> u64
     ensures { pos result ≡ revolution +ℤ pos 2_147_483_680 }
 {
@@ -33,6 +40,7 @@ fn moved_up(revolution: i32) -> u64
 }
 
 // The side of a revolution: 0 withheld, 1 training, 2 test.
+#[tactic(auto, using(crate::proofs::Shifted::same_blocks), unfolding(crate::specs::Sides::side_of))]
 pub fn side(revolution: i32) -> u8
     ensures { result ≡ side_of revolution }
 {
@@ -40,7 +48,7 @@ pub fn side(revolution: i32) -> u8
     if n % 16 == 0 {
         return 0;
     }
-    if n / 16 % 5 == 4 { 2 } else { 1 }
+    if n / 16 % 5 == 4 { TEST } else { TRAINING }
 }
 
 // Writes a label's 24 bytes from `at` on. Whoever writes a file has tested the room for its labels by
@@ -52,14 +60,15 @@ pub fn encode(label: Label, out: &mut [u8], at: usize)
     let reading = label.reading;
     let code = reading.code();
     let watts = reading.watts_bits();
-    endian::write_i64(out, at, label.time);
-    endian::write_i32(out, at + 8, label.revolution);
+    label.time.write(out, at);
+    label.revolution.write(out, at + 8);
     endian::write_four(out, at + 12, [label.side, label.shade, code, 0]);
-    endian::write_i32(out, at + 16, label.elevation);
-    endian::write_u32(out, at + 20, watts);
+    label.elevation.write(out, at + 16);
+    watts.write(out, at + 20);
 }
 
 // The label of a part of a file, where the part is one.
+#[tactic(auto, unfolding(crate::specs::Codec::decoded, crate::specs::Codec::judged))]
 pub fn decode(part: &[u8]) -> Option<Label>
     ensures { result ≡ decoded part.now }
 {
@@ -67,11 +76,7 @@ pub fn decode(part: &[u8]) -> Option<Label>
         return None;
     }
     let fields = fields::fields_at(part);
-    if rules::keeps_rules(fields) {
-        Some(fields::label_of(fields))
-    } else {
-        None
-    }
+    rules::keeps_rules(fields).then_some(fields::label_of(fields))
 }
 
 // The label that a part's fields make, with no test of the rules: the parts of an accepted file keep

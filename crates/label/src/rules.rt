@@ -6,18 +6,21 @@ use crate::fields::Fields;
 use shade::Shade;
 use telemetry::float;
 
+#[tactic(auto, unfolding(crate::specs::Rules::shade_allowed))]
 fn shade_allowed(shade: u8) -> bool
     ensures { result ≡ shade_allowed shade }
 {
     shade <= Shade::Part.code()
 }
 
+#[tactic(auto, unfolding(crate::specs::Rules::elevation_allowed))]
 fn elevation_allowed(elevation: i32) -> bool
     ensures { result ≡ elevation_allowed elevation }
 {
     -1_073_741_824 <= elevation && elevation <= 1_073_741_824
 }
 
+#[tactic(auto, unfolding(crate::specs::Rules::watts_allowed))]
 fn watts_allowed(code: u8, watts: u32) -> bool
     ensures { result ≡ watts_allowed code watts }
 {
@@ -28,26 +31,15 @@ fn watts_allowed(code: u8, watts: u32) -> bool
     }
 }
 
+#[tactic(auto, unfolding(crate::specs::Rules::keeps_rules))]
 pub(crate) fn keeps_rules(fields: Fields) -> bool
     ensures { result ≡ keeps_rules fields }
 {
-    if !time::in_range(fields.time) {
-        return false;
-    }
-    if fields.side != crate::side(fields.revolution) {
-        return false;
-    }
-    if !shade_allowed(fields.shade) {
-        return false;
-    }
-    if 2 < fields.code {
-        return false;
-    }
-    if fields.padding != 0 {
-        return false;
-    }
-    if !elevation_allowed(fields.elevation) {
-        return false;
-    }
-    watts_allowed(fields.code, fields.watts)
+    time::in_range(fields.time)
+        && fields.side == crate::side(fields.revolution)
+        && shade_allowed(fields.shade)
+        && fields.code <= 2
+        && fields.padding == 0
+        && elevation_allowed(fields.elevation)
+        && watts_allowed(fields.code, fields.watts)
 }

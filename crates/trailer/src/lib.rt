@@ -6,6 +6,8 @@ ghost use Rattle.std.proofs.lemmas.List.Edits.{sets};
 ghost use Rattle.trailer.specs.declared.Form.TheVariants.{Bytes24};
 ghost use Rattle.trailer.specs.Trailer.{trailer_size, distance_back, form_of, stated_counts, trailer_bytes, counts_allowed, trailer_allowed, distance_in, trailer_at};
 
+use endian::LittleEndian;
+
 mod counting;
 
 pub const MOST_LABELS: u32 = 1_024;
@@ -40,6 +42,7 @@ pub struct Contents {
 }
 
 impl Form {
+    #[tactic(auto, unfolding(crate::specs::Trailer::trailer_size))]
     pub fn size(self) -> usize
         ensures { result ≡ trailer_size self }
     {
@@ -51,6 +54,7 @@ impl Form {
 }
 
 // The form that a distance tells.
+#[tactic(auto, unfolding(crate::specs::Trailer::form_of))]
 fn form_of(distance: u32) -> Form
     ensures { result ≡ form_of distance }
 {
@@ -62,6 +66,7 @@ fn form_of(distance: u32) -> Form
 }
 
 // The distance from the end of a file back to its first label: the bytes of its labels and its trailer.
+#[tactic(auto, using(crate::proofs::Trailers::size_bounds))]
 pub fn distance_back(form: Form, labels: u32) -> usize
     ensures { result ≡ distance_back form labels }
 {
@@ -69,61 +74,46 @@ pub fn distance_back(form: Form, labels: u32) -> usize
 }
 
 // Counts that some labels can have.
+#[tactic(auto, unfolding(crate::specs::Trailer::counts_allowed))]
 pub fn counts_allowed(stated: Counts) -> bool
     ensures { result ≡ counts_allowed stated }
 {
-    if stated.labels < stated.training {
-        return false;
-    }
-    if stated.labels - stated.training < stated.test {
-        return false;
-    }
-    if stated.labels < stated.dark {
-        return false;
-    }
-    if stated.test < stated.dark_test {
-        return false;
-    }
-    stated.dark_test <= stated.dark
+    stated.training <= stated.labels
+        && stated.test <= stated.labels - stated.training
+        && stated.dark <= stated.labels
+        && stated.dark_test <= stated.test
+        && stated.dark_test <= stated.dark
 }
 
+#[tactic(auto, unfolding(crate::specs::Trailer::trailer_allowed))]
 fn allowed(form: Form, stated: Counts, distance: u32, size: u64) -> bool
     ensures { result ≡ trailer_allowed form stated distance size }
 {
-    if MOST_LABELS < stated.labels {
-        return false;
-    }
-    if distance as usize != distance_back(form, stated.labels) {
-        return false;
-    }
-    if size < distance as u64 {
-        return false;
-    }
-    counts_allowed(stated)
+    stated.labels <= MOST_LABELS
+        && distance as usize == distance_back(form, stated.labels)
+        && distance as u64 <= size
+        && counts_allowed(stated)
 }
 
 // The counts in the bytes of a trailer, which its reader has found at the end of a file.
+#[tactic(auto, unfolding(crate::specs::Trailer::stated_counts, crate::specs::Trailer::trailer_size))]
 fn read_counts(form: Form, bytes: &[u8]) -> Counts
     requires { trailer_size form ≤ length bytes.now }
     ensures { result ≡ stated_counts form bytes.now }
 {
-    let labels = endian::read_u32(bytes, 0);
-    let training = endian::read_u32(bytes, 4);
-    let test = endian::read_u32(bytes, 8);
+    let counts = Counts {
+        labels: u32::read(bytes, 0),
+        training: u32::read(bytes, 4),
+        test: u32::read(bytes, 8),
+        dark: 0,
+        dark_test: 0,
+    };
     match form {
-        Form::Bytes16 => Counts {
-            labels,
-            training,
-            test,
-            dark: 0,
-            dark_test: 0,
-        },
+        Form::Bytes16 => counts,
         Form::Bytes24 => Counts {
-            labels,
-            training,
-            test,
-            dark: endian::read_u32(bytes, 12),
-            dark_test: endian::read_u32(bytes, 16),
+            dark: u32::read(bytes, 12),
+            dark_test: u32::read(bytes, 16),
+            ..counts
         },
     }
 }
@@ -134,7 +124,7 @@ fn find_distance(last: &[u8]) -> u32
     ensures { result ≡ distance_in last.now }
 {
     let at = last.len() - 4;
-    endian::read_u32(&last[at..], 0)
+    u32::read(&last[at..], 0)
 }
 
 // What the trailer at the end of some last bytes of a file of `size` bytes states.
@@ -153,27 +143,27 @@ pub fn find(last: &[u8], size: u64) -> Option<Contents>
     }
     let at = given - own;
     let stated = read_counts(form, &last[at..]);
-    if allowed(form, stated, distance, size) {
-        Some(Contents {
-            form,
-            counts: stated,
-        })
-    } else {
-        None
-    }
+    let contents = Contents {
+        form,
+        counts: stated,
+    };
+    allowed(form, stated, distance, size).then_some(contents)
 }
 
 // Whoever writes a file has tested its room and the number of its labels by then.
-#[tactic(auto, unfolding(crate::specs::Trailer::trailer_size))]
+#[tactic(auto, unfolding(crate::specs::Trailer::trailer_size, crate::specs::Trailer::trailer_bytes, crate::specs::Trailer::stated_bytes, endian::specs::LittleEndian::words, endian::specs::LittleEndian::bytes4))]
 pub fn write_trailer(counts: Counts, out: &mut [u8], at: usize)
     requires { (at + trailer_size Bytes24 ≤ length out.old) × (counts.labels ≤ 1_024) }
     ensures { out.new ≡ sets out.old at (trailer_bytes Bytes24 counts) }
 {
     let distance = distance_back(Form::Bytes24, counts.labels) as u32;
-    endian::write_u32(out, at, counts.labels);
-    endian::write_u32(out, at + 4, counts.training);
-    endian::write_u32(out, at + 8, counts.test);
-    endian::write_u32(out, at + 12, counts.dark);
-    endian::write_u32(out, at + 16, counts.dark_test);
-    endian::write_u32(out, at + 20, distance);
+    let numbers = [
+        counts.labels,
+        counts.training,
+        counts.test,
+        counts.dark,
+        counts.dark_test,
+        distance,
+    ];
+    endian::write_words(out, at, &numbers);
 }

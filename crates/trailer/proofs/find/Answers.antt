@@ -1,16 +1,17 @@
 -- `trailer::find` meets its contract. Assumes nothing.
-use mathlib.Core.Path.{◌≡◌, ◌∙◌, sym, ap, subst}
+use mathlib.Core.Path.{◌≡◌, refl, ◌∙◌, sym, ap, subst}
 use Prim.Native.Nat.{ℕ, ◌-◌, ◌<◌}
 use native.Mathlib.Omega.{arith}
-use mathlib.Core.Bool.{Bool, cond}
+use mathlib.Core.Bool.{Bool, true, false, cond}
+use Rattle.std.specs.Bool.{then_some}
+use Rattle.trailer.specs.declared.Contents.{Contents}
 use lib.ListN.{length, take, drop, length-drop}
 use Rattle.endian.proofs.Slices.{rest_part}
 use mathlib.Core.List.{List}
 use Rattle.trailer.specs.declared.Form.{Form}
-use Rattle.trailer.specs.Trailer.{trailer_size, form_of, stated_counts, trailer_allowed, last_bytes, distance_in, trailer_at}
+use Rattle.trailer.specs.Trailer.{trailer_size, form_of, stated_counts, trailer_allowed, last_bytes, distance_in}
 use Rattle.trailer.proofs.Trailers.{size_bounds, trailer_short, trailer_tested}
 use Rattle.trailer.proofs.find.Goals as goal
-use Rattle.trailer.proofs.find.Goals.{After-allowed}
 use Rattle.std.specs.Prelude.{None, Some}
 use Rattle.trailer.specs.Counts.{contents_of}
 
@@ -35,21 +36,17 @@ read_counts-stated-requires c =
     rw (rest_is last c.size-own.ensures)
     (omega (arith, length-drop (length last - trailer_size c.form_of-form.result) last, c.if-given-own.false, c.size-own.ensures))
 
--- the test decides
-decides : (c : After-allowed) {t : Bool} → c.allowed.result ≡ t
-    → cond t (Some (contents_of c.form_of-form.result c.read_counts-stated.result)) None ≡ trailer_at c.args.last.now c.args.size
-decides c e =
+chosen : (t : Bool) (c : Contents) → then_some t c ≡ cond t (Some c) None
+chosen true c = refl
+chosen false c = refl
+
+pub returns : goal.returns
+returns c =
     let last = c.args.last.now in
     let form = c.form_of-form.result in
     let counts = c.read_counts-stated.result in
     let form_is = c.form_of-form.ensures ∙ ap form_of c.find_distance-distance.ensures in
     let stated = c.read_counts-stated.ensures ∙ ap (stated_counts form) (rest_is last c.size-own.ensures) in
     let tested = trailer_tested last c.args.size form_is stated (omega (arith, c.if-given-own.false, c.size-own.ensures)) in
-    let same = sym e ∙ c.allowed.ensures ∙ ap (λ (d : ℕ). trailer_allowed form counts d c.args.size) c.find_distance-distance.ensures in
-    ap (λ (t : Bool). cond t (Some (contents_of form counts)) None) same ∙ sym tested
-
-pub returns-then-allowed : goal.returns-then-allowed
-returns-then-allowed c = decides (goal.at.returns-then-allowed c).After-allowed c.if-allowed.true
-
-pub returns-else-allowed : goal.returns-else-allowed
-returns-else-allowed c = decides (goal.at.returns-else-allowed c).After-allowed c.if-allowed.false
+    let same = c.allowed.ensures ∙ ap (λ (d : ℕ). trailer_allowed form counts d c.args.size) c.find_distance-distance.ensures in
+    c.then_some.ensures ∙ chosen _ _ ∙ ap (λ (t : Bool). cond t (Some (contents_of form counts)) None) same ∙ sym tested

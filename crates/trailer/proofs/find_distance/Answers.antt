@@ -12,4 +12,4 @@ pub returns : goal.returns
 unfolding distance_in
 returns c =
     let last = c.before.before.before.args.last.now in
-    c.read_u32.ensures ∙ ap (λ (bytes : List ℕ). le4 bytes 0) (rest_part last (length last - 4))
+    c.read.ensures ∙ ap (λ (bytes : List ℕ). le4 bytes 0) (rest_part last (length last - 4))

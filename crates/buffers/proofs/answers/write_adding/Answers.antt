@@ -10,4 +10,4 @@ unfolding add_bytes counts_bytes words bytes8 bytes4
 returns c =
     let l = c.args.answer.now in
     let counts = c.args.counts in
-    then l _ _ 0 8 (bytes8 c.args.size) (counts_bytes counts) refl c.write_u64.ensures c.write_counts.ensures ∙ over_all l (add_bytes counts c.args.size) c.requires
+    then l _ _ 0 8 (bytes8 c.args.size) (counts_bytes counts) refl c.write.ensures c.write_counts.ensures ∙ over_all l (add_bytes counts c.args.size) c.requires

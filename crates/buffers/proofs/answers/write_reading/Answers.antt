@@ -19,5 +19,5 @@ returns c =
     let l = c.args.answer.now in
     let counts = c.args.counts in
     let bytes = read_bytes c.args.form counts in
-    let last = c.write_u32.ensures ∙ ap (λ (k : ℕ). sets c.write_counts.new.answer 20 (bytes4 k)) c.size.ensures in
+    let last = c.write.ensures ∙ ap (λ (k : ℕ). sets c.write_counts.new.answer 20 (bytes4 k)) c.size.ensures in
     then l _ _ 0 20 (counts_bytes counts) (bytes4 (trailer_size c.args.form)) refl c.write_counts.ensures last ∙ over_all l bytes c.requires

@@ -30,6 +30,6 @@ returns c =
     let numbers = words (of_z w32 st.revolution ∷ st.anomaly.angle ∷ st.anomaly.halvings ∷ nat_abs st.radius ∷ []) in
     let one = rw (rw (to_z-of_z (fits (goal.at.returns c).Start).0) at c.bits_of_i32.ensures, magnitude_is (goal.at.returns c).After-magnitude) at c.write_words.ensures in
     let two = then l _ _ 0 16 numbers (position_bytes st.position) refl one c.write_position.ensures in
-    let three = then l _ _ 0 40 (numbers ++ position_bytes st.position) (bytes4 st.node) refl two c.write_u32.ensures in
+    let three = then l _ _ 0 40 (numbers ++ position_bytes st.position) (bytes4 st.node) refl two c.write.ensures in
     then l _ _ 0 44 (numbers ++ position_bytes st.position ++ bytes4 st.node) (position_bytes c.args.earth_fixed) refl three c.write_position-2.ensures
     ∙ over_all l (state_bytes st c.args.earth_fixed) c.requires.0
