@@ -13,7 +13,7 @@ use kepler::Anomaly;
 use orbit::State;
 use position::Position;
 use sun::Sun;
-use trailer::{Counts, Form};
+use trailer::{Contents, Counts};
 
 pub fn write_anomaly(answer: &mut [u8], anomaly: Anomaly)
     requires { length answer.old ≡ 8 }
@@ -89,12 +89,12 @@ pub fn write_counts(answer: &mut [u8], at: usize, counts: Counts)
     endian::write_words(answer, at, &numbers);
 }
 
-pub fn write_reading(answer: &mut [u8], form: Form, counts: Counts)
+pub fn write_reading(answer: &mut [u8], contents: Contents)
     requires { length answer.old ≡ 24 }
-    ensures { answer.new ≡ read_bytes form counts }
+    ensures { answer.new ≡ read_bytes contents.form contents.counts }
 {
-    write_counts(answer, 0, counts);
-    endian::write_u32(answer, 20, form.size() as u32);
+    write_counts(answer, 0, contents.counts);
+    endian::write_u32(answer, 20, contents.form.size() as u32);
 }
 
 pub fn write_adding(answer: &mut [u8], counts: Counts, size: usize)
