@@ -14,7 +14,7 @@ use kepler::Anomaly;
 use orbit::State;
 use position::Position;
 use sun::Sun;
-use trailer::{Counts, Form};
+use trailer::{Contents, Counts};
 
 #[tactic(auto, using(endian::proofs::Words::words_fill), unfolding(crate::specs::Answers::anomaly_bytes))]
 pub fn write_anomaly(answer: &mut [u8], anomaly: Anomaly)
@@ -95,12 +95,12 @@ pub fn write_counts(answer: &mut [u8], at: usize, counts: Counts)
     endian::write_words(answer, at, &numbers);
 }
 
-pub fn write_reading(answer: &mut [u8], form: Form, counts: Counts)
+pub fn write_reading(answer: &mut [u8], contents: Contents)
     requires { length answer.old ≡ 24 }
-    ensures { answer.new ≡ read_bytes form counts }
+    ensures { answer.new ≡ read_bytes contents.form contents.counts }
 {
-    write_counts(answer, 0, counts);
-    (form.size() as u32).write(answer, 20);
+    write_counts(answer, 0, contents.counts);
+    (contents.form.size() as u32).write(answer, 20);
 }
 
 pub fn write_adding(answer: &mut [u8], counts: Counts, size: usize)

@@ -2,9 +2,10 @@
 use mathlib.Core.Path.{◌≡◌, refl, subst⁻¹}
 use mathlib.Core.Bool.{Bool, true, false, cond}
 use Prim.Native.Nat.{ℕ, ◌^◌}
-use lib.Dec.{lit≤}
+use lib.Dec.{ltb, lit≤}
 use lib.Signed.{lt_z}
 use lib.IntN.{ℤ, pos, negsuc, neg_ℤ}
+use Rattle.std.specs.Int.{int_max, int_min}
 use Rattle.integer.specs.Bound.{Within}
 use Rattle.integer.proofs.Tests.{inside}
 use Rattle.integer.proofs.Bounds.{within_neg}
@@ -41,6 +42,16 @@ held_within z = held_between (lt_z z (negsuc 1_073_741_823)) (lt_z (pos 1_073_74
 
 pub held_at : {r : ℤ} (z : ℤ) → r ≡ held_of z → HeldAt z r
 held_at z e = record { is = e; small = subst⁻¹ (Within (2 ^ 30)) e (held_within z) }
+
+-- between the ends the lower one makes no difference
+above_low : (n : ℕ) (b : Bool) → int_max (negsuc 1_073_741_823) (cond b (pos 1_073_741_824) (pos n)) ≡ cond b (pos 1_073_741_824) (pos n)
+above_low n true = refl
+above_low n false = refl
+
+pub clamp_is : (z : ℤ) → int_max (negsuc 1_073_741_823) (int_min z (pos 1_073_741_824)) ≡ held_of z
+unfolding held_of
+clamp_is (pos n) = above_low n (ltb 1_073_741_824 n)
+clamp_is (negsuc n) = refl
 
 pub elevation_within : (i node : ℕ) (sun : Direction) → Within (2 ^ 30) (elevation_of i node sun)
 unfolding elevation_of

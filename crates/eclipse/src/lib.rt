@@ -7,7 +7,6 @@ ghost use Rattle.sun.specs.Contract.{WithinOne};
 ghost use Rattle.eclipse.specs.Dot.{dot_of};
 ghost use Rattle.eclipse.specs.Shade.{side_squared, below_square, shade_behind, shade_of, any_beyond, shade_answer};
 ghost use Rattle.position.specs.Box.{CelestialBox};
-ghost use Rattle.trig.specs.Contract.{SinesOf};
 ghost use Rattle.eclipse.specs.Contract.{DepthBound, RadiusBound, SpreadAt, HeldAt, NormalAt, ElevationAt};
 
 use integer::ONE;
@@ -26,8 +25,6 @@ const SUN_DISTANCE: i64 = 149_600_000_000;
 const RADII_APART: i64 = 689_622_000;
 
 const RADII_TOGETHER: i64 = 702_378_000;
-
-const MINUS_ONE: i64 = -ONE;
 
 // The scalar product with a direction.
 fn dot(x: i64, y: i64, z: i64, direction: Direction) -> i64
@@ -87,23 +84,18 @@ pub fn shade_at(position: Position, sun: Direction) -> Shade
 {
     let p = dot(position.x, position.y, position.z, sun);
     if p < 0 {
-        shade_behind(0 - p, side_squared(position, p))
+        shade_behind(-p, side_squared(position, p))
     } else {
         Shade::Lit
     }
 }
 
 // Whether one of three components is beyond ±bound.
+#[tactic(auto, unfolding(crate::specs::Shade::any_beyond))]
 fn any_beyond(bound: u64, x: i64, y: i64, z: i64) -> bool
     ensures { result ≡ any_beyond bound x y z }
 {
-    if bound < integer::magnitude(x) {
-        return true;
-    }
-    if bound < integer::magnitude(y) {
-        return true;
-    }
-    bound < integer::magnitude(z)
+    bound < integer::magnitude(x) || bound < integer::magnitude(y) || bound < integer::magnitude(z)
 }
 
 // The shade test alone: of any position and Sun, or refusal 14.
@@ -121,13 +113,12 @@ pub fn shade_test(position: Position, sun: Direction) -> Result<Shade, Refusal>
 
 // The orbit normal.
 fn normal(inclination: Sines, node: Sines) -> Direction
-    requires { SinesOf inclination × SinesOf node }
     ensures { NormalAt inclination.angle node.angle result }
 {
     let s = inclination.sine;
     Direction {
         x: integer::scaled(s, node.sine),
-        y: 0 - integer::scaled(s, node.cosine),
+        y: -integer::scaled(s, node.cosine),
         z: inclination.cosine,
     }
 }
@@ -136,19 +127,13 @@ fn normal(inclination: Sines, node: Sines) -> Direction
 fn held(sine: i64) -> i64
     ensures { HeldAt sine result }
 {
-    if sine < MINUS_ONE {
-        return MINUS_ONE;
-    }
-    if ONE < sine {
-        return ONE;
-    }
-    sine
+    sine.clamp(-ONE, ONE)
 }
 
 // The sine of the Sun's elevation above the plane of the orbit, whose node is the drifted one. It is for labelling,
 // which has the sines of both angles for the position too, and whose Sun is within ±2^30 by the promise of `sun_at`.
 pub fn elevation(inclination: Sines, node: Sines, sun: Direction) -> i32
-    requires { SinesOf inclination × SinesOf node × WithinOne sun }
+    requires { WithinOne sun }
     ensures { ElevationAt inclination.angle node.angle sun result }
 {
     let n = normal(inclination, node);

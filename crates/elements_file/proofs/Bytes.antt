@@ -1,28 +1,16 @@
 -- The bytes of the names. Assumes nothing.
 use mathlib.Core.Path.{◌≡◌, refl}
 use mathlib.Core.Bool.{Bool, true, false}
-use mathlib.Core.List.{List, [], ◌∷◌}
-use Prim.Native.Nat.{ℕ, zero, suc, ◌+◌, ◌*◌, ◌≤◌, ◌<◌}
-use native.Mathlib.Nat.{not-suc-le-zero, le_of_suc-le-suc}
+use Prim.Native.Nat.{ℕ, ◌+◌, ◌*◌, ◌≤◌, ◌<◌}
 use native.Mathlib.Omega.{arith}
 use borrow.Author.Tests.{ltb-true, ltb-false}
 use lib.Dec.{ltb}
-use lib.ListN.{length, get_or, get_or-eq_default}
+use lib.ListN.{length, get_or-eq_default}
 use Rattle.elements_file.specs.Names.{names, name_byte}
 
 names_length : length names ≡ 336
 unfolding names
 names_length = refl
-
--- within a list the default plays no part
-any_default : (l : List ℕ) (n d d' : ℕ) → n < length l → get_or l n d ≡ get_or l n d'
-any_default [] n d d' h = absurd (not-suc-le-zero h)
-any_default (x ∷ xs) zero d d' h = refl
-any_default (x ∷ xs) (suc n) d d' h = any_default xs n d d' (le_of_suc-le-suc h)
-
-pub name_read : (element k : ℕ) → 28 * element + k < 336 → get_or names (28 * element + k) 0 ≡ name_byte element k
-unfolding name_byte
-name_read element k h = any_default names (28 * element + k) 0 32 (omega (arith, names_length))
 
 pub name_past : (element k : ℕ) → 336 ≤ 28 * element + k → name_byte element k ≡ 32
 unfolding name_byte

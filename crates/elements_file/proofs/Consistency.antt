@@ -11,13 +11,14 @@ use lib.IntN.{ℤ}
 use lib.ListN.{length}
 use mir.Syntax.{w32, w64}
 use mir.Val.{SFits}
+use Rattle.std.specs.Prelude.{is_some}
 use Rattle.elements.specs.declared.Elements.{Elements}
 use Rattle.elements_file.specs.Names.{name_byte}
 use Rattle.elements_file.proofs.Bytes.{name_inside}
 use Rattle.elements_file.proofs.Choices.{choice}
 use Rattle.elements_file.proofs.Magnitudes.{fits_unsigned, fits_rate, fits_epoch}
 use Rattle.digit.specs.Digit.{is_digit}
-use Rattle.elements_file.specs.Numbers.{is_rate, is_epoch, largest, grown, takes_minus, signed_of}
+use Rattle.elements_file.specs.Numbers.{is_rate, is_epoch, largest, magnitude_of, grown, takes_minus, signed_of}
 use Rattle.elements_file.specs.Lines.{refused, named, counted, valued, begun, within}
 use Rattle.elements_file.specs.Fields.{stored}
 use Rattle.elements_file.specs.Reading.{start, ended, step, after_bytes, concluded, parsed}
@@ -40,11 +41,11 @@ module _ (element : ℕ) (below : element ≤ 12) where
       (λ u. record { due = w.due; place = let h = name_inside element k (λ e. eqb-false byte 32 u (eqb-true byte (name_byte element k) t ∙ e)) in omega arith }))
       (λ t. tt)
 
-  valued_fits : (n : Number) (byte : ℕ) → element < 12 → n.magnitude ≤ largest element n.negative → fit (valued element n byte)
+  valued_fits : (n : Number) (byte : ℕ) → element < 12 → magnitude_of n ≤ largest element n.negative → fit (valued element n byte)
   unfolding valued refused counted fit
   valued_fits n byte due held =
       choice fit (is_digit byte)
-      (λ t. choice fit (leb (grown n (byte - 48)).magnitude (largest element n.negative)) (λ u. (due, leb-true _ _ u)) (λ u. tt))
+      (λ t. choice fit (leb (magnitude_of (grown n (byte - 48))) (largest element n.negative)) (λ u. (due, leb-true _ _ u)) (λ u. tt))
       (λ t. choice fit (eqb byte 45) (λ u. choice fit (takes_minus element n) (λ v. (due, zero-le)) (λ v. tt))
       (λ u. choice fit (eqb byte 46) (λ v. tt) (λ v. tt)))
 
@@ -64,10 +65,10 @@ module _ (element : ℕ) (below : element ≤ 12) where
   within_fits (Faulty fault) byte f = tt
 
 -- ---- the elements
-module _ (el : Elements) (element : ℕ) (n : Number) (holds : n.magnitude ≤ largest element n.negative) where
-  unsigned_held : (k other : ℕ) → is_epoch k ≡ false → is_rate k ≡ false → other < 2 ^ 32 → cond (eqb element k) n.magnitude other < 2 ^ 32
+module _ (el : Elements) (element : ℕ) (n : Number) (holds : magnitude_of n ≤ largest element n.negative) where
+  unsigned_held : (k other : ℕ) → is_epoch k ≡ false → is_rate k ≡ false → other < 2 ^ 32 → cond (eqb element k) (magnitude_of n) other < 2 ^ 32
   unsigned_held k other e r h =
-      choice (λ (m : ℕ). m < 2 ^ 32) (eqb element k) (fits_unsigned k element n.magnitude n.negative e r holds) (λ t. h)
+      choice (λ (m : ℕ). m < 2 ^ 32) (eqb element k) (fits_unsigned k element (magnitude_of n) n.negative e r holds) (λ t. h)
 
   rate_held : (k : ℕ) (other : ℤ) → is_epoch k ≡ false → is_rate k ≡ true → SFits w32 other → SFits w32 (cond (eqb element k) (signed_of n) other)
   rate_held k other e r h = choice (SFits w32) (eqb element k) (fits_rate k element n e r holds) (λ t. h)
@@ -98,7 +99,7 @@ ended_consistent i Comment s e h = record { line = omega arith; element = h.elem
 ended_consistent i (Named k) s e h = record { line = omega arith; element = h.element; place = tt; elements = h.elements }
 ended_consistent i (Value n) s e h =
     let f = rw e at h.place in
-    choice (Consistent (i + 1)) n.digits
+    choice (Consistent (i + 1)) (is_some n.magnitude)
     (λ t. record { line = omega arith; element = omega arith; place = tt; elements = stored_held s.elements s.element n f.1 h.elements })
     (λ t. record { line = omega arith; element = h.element; place = tt; elements = h.elements })
 ended_consistent i (Faulty fault) s e h = record { line = omega arith; element = h.element; place = h.place; elements = h.elements }

@@ -7,6 +7,7 @@ use native.Mathlib.Nat.{le_trans, le_refl, add-zero}
 use native.Mathlib.Omega.{arith}
 use borrow.Author.Tests.{ne_eqb, le-leb, le-ltb}
 use lib.ListN.{length}
+use Rattle.std.specs.Prelude.{Option, Some, None, unwrap_or}
 use Rattle.elements.specs.declared.Elements.{Elements}
 use Rattle.elements_file.specs.Names.{names, name_byte}
 use Rattle.elements_file.specs.Numbers.{is_signed, largest, unwritten, minus, takes_minus}
@@ -29,21 +30,21 @@ module _ (line element : ℕ) (el : Elements) where
   abbrev reading : Place → Progress
   reading p = record { line = line; element = element; place = p; elements = el }
 
-  digit_read : (negative had : Bool) (m d : ℕ) → d ≤ 9 → 10 * m + d ≤ largest element negative →
-      step (reading (Value (record { negative = negative; digits = had; magnitude = m }))) (48 + d)
-      ≡ reading (Value (record { negative = negative; digits = true; magnitude = 10 * m + d }))
+  digit_read : (negative : Bool) (had : Option ℕ) (d : ℕ) → d ≤ 9 → 10 * unwrap_or had 0 + d ≤ largest element negative →
+      step (reading (Value (record { negative = negative; magnitude = had }))) (48 + d)
+      ≡ reading (Value (record { negative = negative; magnitude = Some (10 * unwrap_or had 0 + d) }))
   unfolding step within valued counted
-  digit_read negative had m d h k =
+  digit_read negative had d h k =
       let back : 48 + d - 48 ≡ d = omega arith in
-      rw (ne_eqb (48 + d) 10 (λ e. omega arith), le-leb 48 (48 + d) (omega arith), le-leb (48 + d) 57 (omega arith), back, le-leb (10 * m + d) (largest element negative) k)
+      rw (ne_eqb (48 + d) 10 (λ e. omega arith), le-leb 48 (48 + d) (omega arith), le-leb (48 + d) 57 (omega arith), back, le-leb (10 * unwrap_or had 0 + d) (largest element negative) k)
 
   further_read : (negative : Bool) (m : ℕ) (ds rest : List ℕ) → AllDigits ds → value_after m ds ≤ largest element negative →
-      after_bytes (reading (Value (record { negative = negative; digits = true; magnitude = m }))) (digit_bytes ds ++ rest)
-      ≡ after_bytes (reading (Value (record { negative = negative; digits = true; magnitude = value_after m ds }))) rest
+      after_bytes (reading (Value (record { negative = negative; magnitude = Some m }))) (digit_bytes ds ++ rest)
+      ≡ after_bytes (reading (Value (record { negative = negative; magnitude = Some (value_after m ds) }))) rest
   unfolding after_bytes value_after
   further_read negative m [] rest a h = refl
   further_read negative m (d ∷ ds) rest a h =
-      ap (λ (s : Progress). after_bytes s (digit_bytes ds ++ rest)) (digit_read negative true m d a.0 (le_trans (grows (10 * m + d) ds) h))
+      ap (λ (s : Progress). after_bytes s (digit_bytes ds ++ rest)) (digit_read negative (Some m) d a.0 (le_trans (grows (10 * m + d) ds) h))
       ∙ further_read negative (10 * m + d) ds rest a.1 h
 
   minus_read : is_signed element ≡ true → step (reading (Value unwritten)) 45 ≡ reading (Value minus)
@@ -52,15 +53,15 @@ module _ (line element : ℕ) (el : Elements) where
 
   signed_read : (negative : Bool) (first : ℕ) (further rest : List ℕ) → first ≤ 9 → AllDigits further → (negative ≡ true → is_signed element ≡ true) → value_after first further ≤ largest element negative →
       after_bytes (reading (Value unwritten)) (cond negative (45 ∷ []) [] ++ ((48 + first) ∷ (digit_bytes further ++ rest)))
-      ≡ after_bytes (reading (Value (record { negative = negative; digits = true; magnitude = value_after first further }))) rest
+      ≡ after_bytes (reading (Value (record { negative = negative; magnitude = Some (value_after first further) }))) rest
   unfolding after_bytes
   signed_read false first further rest h a g k =
       let z : 10 * 0 + first ≡ first = omega arith in
-      let one = rw z at (digit_read false false 0 first h (rw z (le_trans (grows first further) k))) in
+      let one = rw z at (digit_read false None first h (rw z (le_trans (grows first further) k))) in
       ap (λ (s : Progress). after_bytes s (digit_bytes further ++ rest)) one ∙ further_read false first further rest a k
   signed_read true first further rest h a g k =
       let z : 10 * 0 + first ≡ first = omega arith in
-      let one = rw z at (digit_read true false 0 first h (rw z (le_trans (grows first further) k))) in
+      let one = rw z at (digit_read true None first h (rw z (le_trans (grows first further) k))) in
       ap (λ (s : Progress). after_bytes (step s (48 + first)) (digit_bytes further ++ rest)) (minus_read (g refl))
       ∙ ap (λ (s : Progress). after_bytes s (digit_bytes further ++ rest)) one
       ∙ further_read true first further rest a k

@@ -1,7 +1,7 @@
 -- What the reader's functions owe one another. Assumes nothing.
 use Rattle.std.specs.Prelude.{ℕ, ◌+◌, ◌≤◌, ◌<◌, Err, Ok, Result}
 use Rattle.elements.specs.Contract.{Held}
-use Rattle.elements_file.specs.Numbers.{largest}
+use Rattle.elements_file.specs.Numbers.{largest, magnitude_of}
 use Rattle.elements_file.specs.declared.Progress.{Progress}
 use Rattle.elements_file.specs.declared.line.Place.{Place}
 use Rattle.elements_file.specs.declared.line.Place.TheVariants.{Start, Comment, Named, Value, Faulty}
@@ -19,14 +19,14 @@ abbrev pub Fitting : ℕ → Place → Type 0
 Fitting element Start = Unit {0}
 Fitting element Comment = Unit {0}
 Fitting element (Named k) = NameAt element k
-Fitting element (Value n) = (element < 12) × (n.magnitude ≤ largest element n.negative)
+Fitting element (Value n) = (element < 12) × (magnitude_of n ≤ largest element n.negative)
 Fitting element (Faulty fault) = Unit {0}
 
 -- a number that the element due holds, with another line to count
 pub record Due (s : Progress) (n : Number) : Type 0 where
   pub line : s.line ≤ 65_535
   pub element : s.element < 12
-  pub held : n.magnitude ≤ largest s.element n.negative
+  pub held : magnitude_of n ≤ largest s.element n.negative
 
 -- after some number of bytes: no more lines than those, a number that its element holds, and elements within their types
 pub record Consistent (bytes : ℕ) (s : Progress) : Type 0 where

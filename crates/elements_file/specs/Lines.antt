@@ -2,7 +2,7 @@
 use Rattle.std.specs.Prelude.{ℕ, ◌+◌, ◌-◌, cond, eqb, ltb, leb}
 use Rattle.digit.specs.Digit.{is_digit}
 use Rattle.elements_file.specs.Names.{name_byte}
-use Rattle.elements_file.specs.Numbers.{largest, unwritten, minus, takes_minus, grown}
+use Rattle.elements_file.specs.Numbers.{largest, magnitude_of, unwritten, minus, takes_minus, grown}
 use Rattle.elements_file.specs.declared.Fault.{Fault}
 use Rattle.elements_file.specs.declared.Fault.TheVariants.{Name, Extra, ControlByte, DecimalPoint, NotWhole, TooLarge}
 use Rattle.elements_file.specs.declared.line.Place.{Place}
@@ -21,7 +21,7 @@ named element k byte =
 
 -- a number as far as its element holds it
 unfoldable pub counted : ℕ → Number → Place
-counted element n = cond (leb n.magnitude (largest element n.negative)) (Value n) (Faulty TooLarge)
+counted element n = cond (leb (magnitude_of n) (largest element n.negative)) (Value n) (Faulty TooLarge)
 
 -- a minus where the element may have one, then digits
 unfoldable pub valued : ℕ → Number → ℕ → Place

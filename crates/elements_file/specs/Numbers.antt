@@ -1,5 +1,5 @@
 -- Numbers as an elements file writes them, and what each element holds. Assumes nothing.
-use Rattle.std.specs.Prelude.{ℕ, ◌+◌, ◌*◌, ◌-◌, ◌^◌, Bool, true, false, ◌||◌, ◌&&◌, not, cond, eqb, ℤ, pos, neg_ℤ}
+use Rattle.std.specs.Prelude.{ℕ, ◌+◌, ◌*◌, ◌-◌, ◌^◌, Bool, true, false, ◌||◌, ◌&&◌, not, cond, eqb, Some, None, is_none, unwrap_or, ℤ, pos, neg_ℤ}
 use Rattle.elements_file.specs.declared.number.Number.{Number}
 
 -- the drift rates of the node and of the perigee, and half the derivative of the mean motion, in 32 bits
@@ -21,21 +21,25 @@ largest element negative =
     (cond (is_rate element) (cond negative (2 ^ 31) (2 ^ 31 - 1))
     (2 ^ 32 - 1))
 
+-- the digits' number, 0 where none stands
+abbrev pub magnitude_of : Number → ℕ
+magnitude_of n = unwrap_or n.magnitude 0
+
 -- no digit yet, and no minus
 abbrev pub unwritten : Number
-unwritten = record { negative = false; digits = false; magnitude = 0 }
+unwritten = record { negative = false; magnitude = None }
 
 -- a minus, with which a number may begin
 abbrev pub minus : Number
-minus = record { negative = true; digits = false; magnitude = 0 }
+minus = record { negative = true; magnitude = None }
 
 -- a minus stands first, where the element may be negative
 unfoldable pub takes_minus : ℕ → Number → Bool
-takes_minus element n = not n.negative && not n.digits && is_signed element
+takes_minus element n = not n.negative && is_none n.magnitude && is_signed element
 
 -- a further digit
 abbrev pub grown : Number → ℕ → Number
-grown n digit = record { negative = n.negative; digits = true; magnitude = 10 * n.magnitude + digit }
+grown n digit = record { negative = n.negative; magnitude = Some (10 * magnitude_of n + digit) }
 
 unfoldable pub signed_of : Number → ℤ
-signed_of n = cond n.negative (neg_ℤ (pos n.magnitude)) (pos n.magnitude)
+signed_of n = cond n.negative (neg_ℤ (pos (magnitude_of n))) (pos (magnitude_of n))

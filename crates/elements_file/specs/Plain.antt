@@ -1,8 +1,8 @@
 -- Plain elements files, with no comment and no empty line, and the elements that they write. Assumes nothing.
-use Rattle.std.specs.Prelude.{ℕ, zero, suc, ◌+◌, ◌*◌, ◌≤◌, ◌≡◌, Bool, true, cond, List, [], ◌∷◌, ◌++◌, eqb, drop}
+use Rattle.std.specs.Prelude.{ℕ, zero, suc, ◌+◌, ◌*◌, ◌≤◌, ◌≡◌, Bool, true, cond, List, [], ◌∷◌, ◌++◌, eqb, drop, Some}
 use Rattle.elements.specs.declared.Elements.{Elements}
 use Rattle.elements_file.specs.Names.{names}
-use Rattle.elements_file.specs.Numbers.{is_signed, largest, signed_of}
+use Rattle.elements_file.specs.Numbers.{is_signed, largest, magnitude_of, signed_of}
 use Rattle.elements_file.specs.declared.number.Number.{Number}
 
 -- the number that digits write, behind those of m
@@ -17,7 +17,7 @@ pub record Numeral : Type 0 where
   pub further : List ℕ
 
 abbrev pub read_number : Numeral → Number
-read_number w = record { negative = w.negative; digits = true; magnitude = value_after w.first w.further }
+read_number w = record { negative = w.negative; magnitude = Some (value_after w.first w.further) }
 
 -- ---- the bytes
 abbrev pub digit_bytes : List ℕ → List ℕ
@@ -52,21 +52,21 @@ pub record Plain (element : ℕ) (w : Numeral) : Type 0 where
   pub leading : w.first ≤ 9
   pub following : AllDigits w.further
   pub signed : w.negative ≡ true → is_signed element ≡ true
-  pub held : (read_number w).magnitude ≤ largest element w.negative
+  pub held : magnitude_of (read_number w) ≤ largest element w.negative
 
 abbrev pub written_elements : (ℕ → Numeral) → Elements
 written_elements w =
     record {
-      eccentricity = (read_number (w 0)).magnitude;
-      semi_major_axis = (read_number (w 1)).magnitude;
-      inclination = (read_number (w 2)).magnitude;
-      node = (read_number (w 3)).magnitude;
-      argument_of_perigee = (read_number (w 4)).magnitude;
-      mean_anomaly = (read_number (w 5)).magnitude;
-      mean_motion = (read_number (w 6)).magnitude;
+      eccentricity = magnitude_of (read_number (w 0));
+      semi_major_axis = magnitude_of (read_number (w 1));
+      inclination = magnitude_of (read_number (w 2));
+      node = magnitude_of (read_number (w 3));
+      argument_of_perigee = magnitude_of (read_number (w 4));
+      mean_anomaly = magnitude_of (read_number (w 5));
+      mean_motion = magnitude_of (read_number (w 6));
       node_rate = signed_of (read_number (w 7));
       perigee_rate = signed_of (read_number (w 8));
-      epoch_revolution = (read_number (w 9)).magnitude;
+      epoch_revolution = magnitude_of (read_number (w 9));
       epoch = signed_of (read_number (w 10));
       half_mean_motion_derivative = signed_of (read_number (w 11));
     }

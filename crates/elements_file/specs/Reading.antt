@@ -1,5 +1,5 @@
 -- What an elements file holds: its bytes in turn, each with what it does. Assumes nothing.
-use Rattle.std.specs.Prelude.{ℕ, ◌+◌, cond, List, [], ◌∷◌, eqb, ltb, pos, length, Err, Ok, Result}
+use Rattle.std.specs.Prelude.{ℕ, ◌+◌, cond, List, [], ◌∷◌, eqb, ltb, is_some, pos, length, Err, Ok, Result}
 use Rattle.elements_file.specs.Fields.{stored}
 use Rattle.elements_file.specs.Lines.{within}
 use Rattle.elements_file.specs.declared.Fault.{Fault}
@@ -53,7 +53,7 @@ unfoldable pub ended : Place → Progress → Progress
 ended Start s = next_line s
 ended Comment s = next_line s
 ended (Named k) s = at s (Faulty Name)
-ended (Value n) s = cond n.digits (next_element s n) (at s (Faulty NotWhole))
+ended (Value n) s = cond (is_some n.magnitude) (next_element s n) (at s (Faulty NotWhole))
 ended (Faulty fault) s = s
 
 -- a byte: LF ends a line

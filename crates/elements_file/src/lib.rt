@@ -8,7 +8,7 @@ mod number;
 
 ghost use Rattle.std.specs.Prelude.{◌≡◌, ◌≤◌};
 ghost use Rattle.elements_file.specs.Contract.{Consistent, Due};
-ghost use Rattle.elements_file.specs.Reading.{malformed_at, start, at, next_line, next_element, ended, step, concluded, parsed};
+ghost use Rattle.elements_file.specs.Reading.{malformed_at, at, next_line, next_element, ended, step, concluded, parsed};
 
 use elements::Elements;
 use line::Place;
@@ -52,54 +52,41 @@ struct Progress {
     elements: Elements,
 }
 
-#[tactic(auto, unfolding(crate::specs::Reading::start))]
-fn start() -> Progress
-    ensures { result ≡ start }
-{
-    Progress {
-        line: 1,
-        element: 0,
-        place: Place::Start,
-        elements: Elements {
-            eccentricity: 0,
-            semi_major_axis: 0,
-            inclination: 0,
-            node: 0,
-            argument_of_perigee: 0,
-            mean_anomaly: 0,
-            mean_motion: 0,
-            node_rate: 0,
-            perigee_rate: 0,
-            epoch_revolution: 0,
-            epoch: 0,
-            half_mean_motion_derivative: 0,
-        },
-    }
-}
+const START: Progress = Progress {
+    line: 1,
+    element: 0,
+    place: Place::Start,
+    elements: Elements {
+        eccentricity: 0,
+        semi_major_axis: 0,
+        inclination: 0,
+        node: 0,
+        argument_of_perigee: 0,
+        mean_anomaly: 0,
+        mean_motion: 0,
+        node_rate: 0,
+        perigee_rate: 0,
+        epoch_revolution: 0,
+        epoch: 0,
+        half_mean_motion_derivative: 0,
+    },
+};
 
 // The same with another place in the line.
 fn at(s: Progress, place: Place) -> Progress
     ensures { result ≡ at s place }
 {
-    let elements = s.elements;
-    Progress {
-        line: s.line,
-        element: s.element,
-        place,
-        elements,
-    }
+    Progress { place, ..s }
 }
 
 fn next_line(s: Progress) -> Progress
     requires { s.line ≤ 65_535 }
     ensures { result ≡ next_line s }
 {
-    let elements = s.elements;
     Progress {
         line: s.line + 1,
-        element: s.element,
         place: Place::Start,
-        elements,
+        ..s
     }
 }
 
@@ -107,12 +94,11 @@ fn next_element(s: Progress, number: Number) -> Progress
     requires { Due s number }
     ensures { result ≡ next_element s number }
 {
-    let elements = s.elements;
     Progress {
         line: s.line + 1,
         element: s.element + 1,
         place: Place::Start,
-        elements: field::stored(elements, s.element, number),
+        elements: field::stored(s.elements, s.element, number),
     }
 }
 
@@ -121,13 +107,11 @@ fn ended(s: Progress) -> Progress
     requires { Consistent 65_534 s }
     ensures { result ≡ ended s.place s }
 {
-    let place = s.place;
-    match place {
-        Place::Start => next_line(s),
-        Place::Comment => next_line(s),
+    match s.place {
+        Place::Start | Place::Comment => next_line(s),
         Place::Named(_) => at(s, Place::Faulty(Fault::Name)),
         Place::Value(number) => {
-            if number.digits {
+            if number.magnitude.is_some() {
                 next_element(s, number)
             } else {
                 at(s, Place::Faulty(Fault::NotWhole))
@@ -145,8 +129,7 @@ fn step(s: Progress, byte: u8) -> Progress
     if byte == b'\n' {
         return ended(s);
     }
-    let place = s.place;
-    at(s, line::within(place, s.element, byte))
+    at(s, line::within(s.place, s.element, byte))
 }
 
 // The fault of a file where it has been read so far.
@@ -184,11 +167,9 @@ pub fn parse(text: &[u8]) -> Result<Elements, Malformed>
             fault: Fault::TooLong,
         });
     }
-    let mut s = start();
-    let mut i = 0;
-    while i < text.len() {
-        s = step(s, text[i]);
-        i += 1;
+    let mut s = START;
+    for byte in text {
+        s = step(s, *byte);
     }
     finished(s)
 }

@@ -39,26 +39,24 @@ fn named(element: u32, k: usize, byte: u8) -> Place
     if byte == b' ' {
         return Place::Value(Number {
             negative: false,
-            digits: false,
-            magnitude: 0,
+            magnitude: None,
         });
     }
     Place::Named(k + 1)
 }
 
-#[tactic(auto, unfolding(crate::specs::Lines::counted))]
+#[tactic(auto, using(crate::proofs::Magnitudes::largest_digit), unfolding(crate::specs::Lines::counted))]
 fn counted(element: u32, number: Number, digit: u64) -> Place
     requires { digit ≤ 9 }
     ensures { result ≡ counted element (grown number digit) }
 {
-    let magnitude = number.magnitude;
+    let magnitude = number.magnitude();
     if (number::largest(element, number.negative) - digit) / 10 < magnitude {
         return Place::Faulty(Fault::TooLarge);
     }
     Place::Value(Number {
         negative: number.negative,
-        digits: true,
-        magnitude: 10 * magnitude + digit,
+        magnitude: Some(10 * magnitude + digit),
     })
 }
 
@@ -67,14 +65,13 @@ fn valued(element: u32, number: Number, byte: u8) -> Place
     ensures { result ≡ valued element number byte }
 {
     if digit::is_digit(byte) {
-        return counted(element, number, (byte - b'0') as u64);
+        return counted(element, number, u64::from(byte - b'0'));
     }
     if byte == b'-' {
         if number.takes_minus(element) {
             return Place::Value(Number {
                 negative: true,
-                digits: false,
-                magnitude: 0,
+                magnitude: None,
             });
         }
         return Place::Faulty(Fault::NotWhole);

@@ -23,6 +23,8 @@ pub(crate) fn byte(element: u32, k: usize) -> u8
     requires { NameAt element k }
     ensures { result ≡ name_byte element k }
 {
-    let at = 28 * (element as usize) + k;
-    if at < 336 { NAMES[at] } else { b' ' }
+    NAMES
+        .get(28 * (element as usize) + k)
+        .copied()
+        .unwrap_or(b' ')
 }

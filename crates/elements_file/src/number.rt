@@ -1,22 +1,18 @@
 // Numbers as an elements file writes them.
 ghost use Rattle.std.specs.Prelude.{◌≡◌, ◌≤◌};
-ghost use Rattle.elements_file.specs.Numbers.{is_rate, takes_minus, largest, signed_of};
+ghost use Rattle.elements_file.specs.Numbers.{is_rate, magnitude_of, takes_minus, largest, signed_of};
 
-// A minus or none, whether a digit stands yet, and the digits' number.
+// A minus or none, and the digits' number, once a digit stands.
 #[derive(Clone, Copy)]
 pub struct Number {
     pub negative: bool,
-    pub digits: bool,
-    pub magnitude: u64,
+    pub magnitude: Option<u64>,
 }
 
 fn is_rate(element: u32) -> bool
     ensures { result ≡ is_rate element }
 {
-    if element == 7 {
-        return true;
-    }
-    element == 8 || element == 11
+    matches!(element, 7 | 8 | 11)
 }
 
 // The largest magnitude that an element holds.
@@ -24,52 +20,44 @@ fn is_rate(element: u32) -> bool
 pub(crate) fn largest(element: u32, negative: bool) -> u64
     ensures { result ≡ largest element negative }
 {
+    // There is one more number below zero than above it.
+    let more = u64::from(negative);
     if element == 10 {
-        if negative {
-            return 0x8000_0000_0000_0000;
-        }
-        return 0x7fff_ffff_ffff_ffff;
+        0x7fff_ffff_ffff_ffff + more
+    } else if is_rate(element) {
+        0x7fff_ffff + more
+    } else {
+        0xffff_ffff
     }
-    if is_rate(element) {
-        if negative {
-            return 0x8000_0000;
-        }
-        return 0x7fff_ffff;
-    }
-    0xffff_ffff
 }
 
 impl Number {
+    pub(crate) fn magnitude(self) -> u64
+        ensures { result ≡ magnitude_of self }
+    {
+        self.magnitude.unwrap_or(0)
+    }
+
     // Whether a minus may stand next.
     #[tactic(auto, unfolding(crate::specs::Numbers::takes_minus))]
     pub(crate) fn takes_minus(self, element: u32) -> bool
         ensures { result ≡ takes_minus element self }
     {
-        if self.negative {
-            return false;
-        }
-        if self.digits {
-            return false;
-        }
-        if is_rate(element) {
-            return true;
-        }
-        element == 10
+        !self.negative && self.magnitude.is_none() && (is_rate(element) || element == 10)
     }
 
     // The number with its sign. A number is read as far as its element holds it, and 64 bits hold every
     // element: this is what the `requires` asks.
     #[tactic(auto, unfolding(crate::specs::Numbers::signed_of))]
     pub(crate) fn signed(self) -> i64
-        requires { self.magnitude ≤ largest 10 self.negative }
+        requires { magnitude_of self ≤ largest 10 self.negative }
         ensures { result ≡ signed_of self }
     {
+        let magnitude = self.magnitude();
         if self.negative {
-            if self.magnitude == 0 {
-                return 0;
-            }
-            return -1 - ((self.magnitude - 1) as i64);
+            magnitude.cast_signed().wrapping_neg()
+        } else {
+            magnitude as i64
         }
-        self.magnitude as i64
     }
 }

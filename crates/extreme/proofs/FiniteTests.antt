@@ -1,23 +1,17 @@
--- A number is finite where it is neither a NaN nor infinite. Assumes nothing.
-use mathlib.Core.Path.{◌≡◌, refl, sym, subst}
-use mathlib.Core.Bool.{Bool, true, false, not}
+-- The library's test of a finite number. Assumes nothing.
+use mathlib.Core.Path.{◌≡◌, refl}
+use mathlib.Core.Bool.{Bool, true, false}
 use lib.Dec.{T}
-use lib.Ieee.{Float, nan, inf, fin, is_nan}
+use lib.Ieee.{Float, nan, inf, fin}
 use lib.Ieee.Scale.{finite}
-use Rattle.telemetry.specs.Readings.{is_infinite}
+use Rattle.std.specs.Float.{float_is_finite}
+
+pub finite_is : (x : Float) → float_is_finite x ≡ finite x
+unfolding float_is_finite
+finite_is nan = refl
+finite_is (inf s) = refl
+finite_is (fin s m e) = refl
 
 pub is_true : (b : Bool) → T b → b ≡ true
 is_true true t = refl
 is_true false t = absurd t
-
-pub nan_not : (x : Float) → is_nan x ≡ true → false ≡ finite x
-unfolding is_nan
-nan_not nan h = refl
-nan_not (inf s) h = refl
-nan_not (fin s m e) h = absurd (subst T (sym h) tt)
-
-pub finite_told : (x : Float) → is_nan x ≡ false → not (is_infinite x) ≡ finite x
-unfolding is_nan
-finite_told nan h = absurd (subst T h tt)
-finite_told (inf s) h = refl
-finite_told (fin s m e) h = refl

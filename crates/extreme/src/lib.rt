@@ -2,10 +2,7 @@
 #![tactic(auto)]
 
 ghost use Rattle.std.specs.Prelude.{◌≡◌};
-ghost use Rattle.std.specs.Float.Ieee.Scale.{finite};
 ghost use Rattle.extreme.specs.Extremes.{ahead, keep, is_of};
-
-use telemetry::float;
 
 // Which extreme: lesser numbers go ahead, or greater ones.
 #[derive(Clone, Copy)]
@@ -23,15 +20,6 @@ fn goes_ahead(kind: Kind, x: f32, y: f32) -> bool
     }
 }
 
-fn is_finite(x: f32) -> bool
-    ensures { result ≡ finite x }
-{
-    if float::is_nan(x) {
-        return false;
-    }
-    !float::is_infinite(x)
-}
-
 // The least or the greatest number, where there are any, with one number more. Of equals the earlier stands.
 pub fn with(extreme: Option<f32>, kind: Kind, x: f32) -> Option<f32>
     ensures { result ≡ keep kind extreme x }
@@ -43,11 +31,12 @@ pub fn with(extreme: Option<f32>, kind: Kind, x: f32) -> Option<f32>
 }
 
 // Whether it can be the extreme of so many finite numbers.
+#[tactic(auto, using(crate::proofs::FiniteTests::finite_is))]
 pub fn is_of(extreme: Option<f32>, numbers: u32) -> bool
     ensures { result ≡ is_of numbers extreme }
 {
     match extreme {
         None => numbers == 0,
-        Some(x) => numbers != 0 && is_finite(x),
+        Some(x) => numbers != 0 && x.is_finite(),
     }
 }

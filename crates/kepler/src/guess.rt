@@ -3,7 +3,6 @@
 ghost use Rattle.std.specs.Prelude.{◌^◌, ◌<◌, ◌≤◌};
 
 use crate::UNIT;
-use crate::window::less;
 use trig::{HALF_TURN, TURN};
 
 // The part a of b, with a in these units.
@@ -12,12 +11,6 @@ fn part(a: u64, b: u64) -> u64
     ensures { result ≤ b }
 {
     a * b >> 31
-}
-
-fn at_most_half(angle: u64) -> u64
-    ensures { result ≤ 2 ^ 31 }
-{
-    if angle < HALF_TURN { angle } else { HALF_TURN }
 }
 
 // The sine of half an angle to 11 units, by a polynomial of degree 9.
@@ -30,7 +23,7 @@ fn half_sine(angle: u64) -> u64
     let v3 = 171_129_684 - part(square, v4);
     let v2 = 1_387_195_746 - part(square, v3);
     let v1 = 3_373_259_346 - part(square, v2);
-    at_most_half(part(angle, v1))
+    part(angle, v1).min(HALF_TURN)
 }
 
 // M + e·M·(1 - M)·(11/8 + M/2) / (1 - 24/25·e + 10/3·e·M), with M in half turns: within 0.041 radians of the anomaly for every eccentricity.
@@ -41,7 +34,7 @@ fn start(e: u64, mean: u64) -> u64
     let product = part(mean, e);
     let above = part(part(HALF_TURN - mean, product), 2_952_790_016 + mean / 2);
     let below = HALF_TURN - e * 24 / 25 + product * 10 / 3;
-    at_most_half(mean + at_most_half(above * HALF_TURN / below))
+    (mean + (above * HALF_TURN / below).min(HALF_TURN)).min(HALF_TURN)
 }
 
 // Newton's rule: from E to (M + e·sin E - E + E·(1 - e·cos E)) / (1 - e·cos E). By half the angle nothing in it is below 0: sin E is
@@ -56,19 +49,15 @@ fn newton(e: u64, mean: u64, angle: u64) -> u64
     // 2^33/2π: e·sin E as an angle
     let h = part(part(cosine, product), 1_367_130_551);
     let slope = HALF_TURN - e + 2 * part(sine, product);
-    let sum = less(mean + h + 1 + part(angle, slope), angle);
-    at_most_half(sum * HALF_TURN / slope)
+    let sum = (mean + h + 1 + part(angle, slope)).saturating_sub(angle);
+    (sum * HALF_TURN / slope).min(HALF_TURN)
 }
 
 fn folded(angle: u64) -> u64
     requires { angle < 2 ^ 32 }
     ensures { result ≤ 2 ^ 31 }
 {
-    if angle < HALF_TURN {
-        angle
-    } else {
-        TURN - angle
-    }
+    angle.min(TURN - angle)
 }
 
 pub(crate) fn guess(eccentricity: u32, mean_anomaly: u32) -> u64

@@ -11,6 +11,7 @@ ghost use Rattle.kepler.specs.Kepler.{equation, halve};
 
 use refusal::Refusal;
 use trig::{HALF_TURN, ONE, TURN};
+use window::Window;
 
 // The unit of eccentricity: this many make 1.
 const UNIT: u64 = 10_000_000;
@@ -40,35 +41,37 @@ fn equation(e: u64, angle: u64) -> u64
     }
 }
 
-// `from`, or the middle where that becomes the lower end and lies beyond it. k is evaluated only where the middle lies between `from` and `to`,
-// which is one test, most often false: on which side of them the middle lies could not be foreseen. Where it is not beyond `from`, the
-// difference wraps and is great.
-fn raised(e: u64, m: u64, from: u64, to: u64, middle: u64) -> u64
-    requires { (e ≤ 9_000_000) × DecidesAt e m from to middle }
-    ensures { result ≡ raised_to e m from middle }
+// The window's `from`, or the middle where that becomes the lower end and lies beyond it. k is evaluated only where the middle lies between
+// the window's ends, which is one test, most often false: on which side of them the middle lies could not be foreseen. Where it is not beyond
+// `from`, the difference wraps and is great.
+fn raised(e: u64, m: u64, window: Window, middle: u64) -> u64
+    requires { (e ≤ 9_000_000) × DecidesAt e m window.from window.to middle }
+    ensures { result ≡ raised_to e m window.from middle }
 {
-    let beyond = std::num::wrapping_sub_u64(middle, from + 1);
-    if beyond < to - from - 1 {
-        let k = equation(e, middle);
-        if k <= m { middle } else { from }
+    let beyond = middle.wrapping_sub(window.from + 1);
+    if beyond < window.to - window.from - 1 && equation(e, middle) <= m {
+        middle
     } else {
-        from
+        window.from
     }
 }
 
-// The lower end after the halvings that are left, of the interval of `width` angles that `from` lies in. Most halvings need no evaluation of k:
-// up to `from` it is at most m, and from `to` on it is above m, so that the half in which `from` lies is the one that is left.
-fn halve(e: u64, m: u64, from: u64, to: u64, width: u64, left: u64) -> u64
-    requires { (e ≤ 9_000_000) × (width ≡ 2 ^ left) × (left ≤ 32) × (lower_end width from + width ≤ 2 ^ 32) × Decides e m (lower_end width from) from to }
-    ensures { result ≡ halve e m (lower_end width from) left }
+// The lower end after the halvings that are left, of the interval of `width` angles that the window's `from` lies in. Most halvings need no
+// evaluation of k: up to `from` it is at most m, and from `to` on it is above m, so that the half in which `from` lies is the one that is left.
+fn halve(e: u64, m: u64, window: Window, width: u64, left: u64) -> u64
+    requires { (e ≤ 9_000_000) × (width ≡ 2 ^ left) × (left ≤ 32) × (lower_end width window.from + width ≤ 2 ^ 32) × Decides e m (lower_end width window.from) window.from window.to }
+    ensures { result ≡ halve e m (lower_end width window.from) left }
 {
     if left == 0 {
-        return from;
+        return window.from;
     }
     let half = width / 2;
-    let middle = (from >> left) * width + half;
-    let next = raised(e, m, from, to, middle);
-    halve(e, m, next, to, half, left - 1)
+    let middle = (window.from >> left) * width + half;
+    let next = Window {
+        from: raised(e, m, window, middle),
+        to: window.to,
+    };
+    halve(e, m, next, half, left - 1)
 }
 
 // The eccentric anomaly of an eccentricity that the caller has found to be at most 9,000,000: without that, k may be below 0.
@@ -87,9 +90,7 @@ pub fn eccentric_anomaly(eccentricity: u32, mean_anomaly: u32) -> Anomaly
     let near = guess::guess(eccentricity, mean_anomaly);
     let k = equation(e, near);
     let window = window::of_guess(e, m, near, k);
-    let from = window.from;
-    let to = window.to;
-    let lower_end = halve(e, m, from, to, TURN, HALVINGS);
+    let lower_end = halve(e, m, window, TURN, HALVINGS);
     let angle = lower_end as u32;
     Anomaly {
         angle,

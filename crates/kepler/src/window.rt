@@ -1,6 +1,6 @@
 // The window: up to which angle k is at most m, and from which on it is above m, as far as one value of k tells. From one angle to the next k
 // need not rise, but over a way of many angles it rises by a known part of the way, less what the cuts take.
-ghost use Rattle.std.specs.Prelude.{◌≡◌, ◌-◌, ◌^◌, ◌<◌, ◌≤◌};
+ghost use Rattle.std.specs.Prelude.{◌^◌, ◌<◌, ◌≤◌};
 ghost use Rattle.trig.specs.Contract.{Bounded};
 ghost use Rattle.kepler.specs.Contract.{Around, Decides, Reaches};
 ghost use Rattle.kepler.specs.Kepler.{equation};
@@ -15,19 +15,12 @@ pub struct Window {
     pub to: u64,
 }
 
-// a - b, and 0 where that would be below 0.
-pub(crate) fn less(a: u64, b: u64) -> u64
-    ensures { result ≡ a - b }
-{
-    if b <= a { a - b } else { 0 }
-}
-
 // After how many angles k has come from `have` to `need`, where it gains at least a part with each, in units of 10^-7, and the cuts take the slack.
 fn angles(part: u64, slack: u64, need: u64, have: u64) -> u64
     requires { (1 ≤ part) × (slack ≤ 38_450_000) × (need ≤ 2 ^ 33) × (have ≤ 2 ^ 33) }
     ensures { Reaches part slack need have result }
 {
-    less(need * UNIT + slack, have * UNIT) / part + 1
+    (need * UNIT + slack).saturating_sub(have * UNIT) / part + 1
 }
 
 // The window round a guess, where k rises by the part 1 - share/10^7 of the way. The slack is what the cuts of S, g and h can take from that.
@@ -39,9 +32,8 @@ fn around(e: u64, share: u64, m: u64, guess: u64, k: u64) -> Window
     let part = UNIT - share;
     let up = angles(part, slack, m, k);
     let down = angles(part, slack, k, m + 1);
-    let from = less(guess, down);
     Window {
-        from,
+        from: guess.saturating_sub(down),
         to: guess + up,
     }
 }
@@ -53,12 +45,9 @@ pub(crate) fn of_guess(e: u64, m: u64, guess: u64, k: u64) -> Window
     ensures { Decides e m 0 result.from result.to }
 {
     let narrow = around(e, e / 3 + 1, m, guess, k);
-    let from = narrow.from;
-    let to = narrow.to;
-    if ONE + 8 <= from {
-        if to + 8 <= 3 * ONE {
-            return narrow;
-        }
+    if ONE + 8 <= narrow.from && narrow.to + 8 <= 3 * ONE {
+        narrow
+    } else {
+        around(e, e + 1, m, guess, k)
     }
-    around(e, e + 1, m, guess, k)
 }

@@ -8,10 +8,11 @@ use trailer::{Contents, Form};
 
 const MOST: u64 = trailer::LONGEST as u64;
 
+#[tactic(auto, unfolding(crate::specs::Tail::tail_size))]
 fn tail_size(size: u64) -> u64
     ensures { result ≡ tail_size size }
 {
-    if size < MOST { size } else { MOST }
+    size.min(MOST)
 }
 
 // The dark test labels of a file of `size` bytes, from its last 24 bytes, or all where it has fewer; none where

@@ -5,14 +5,13 @@
 ghost use Rattle.std.specs.Prelude.{◌≡◌, ◌*◌, ◌≤◌, length};
 ghost use Rattle.label_file.specs.File.{longest};
 ghost use Rattle.label_file.specs.Reading.{file_reading};
-ghost use Rattle.trailer.specs.Counts.{contents_of};
 ghost use Rattle.listing.specs.Contract.{EndsWithin, RoomMade};
 
 use label::Label;
 use label_file::LONGEST;
 use refusal::RefusedAt;
 use std::io::{self, Read};
-use trailer::{Contents, Counts, Form};
+use trailer::{Contents, Counts};
 
 // Makes room for more bytes behind the first `end` of a window: of a full one the second half is kept, at
 // its start. The answer is where the kept bytes end.
@@ -89,11 +88,11 @@ fn print_failure(rt: &(impl Print + Eprint)) -> io::Result<()> {
     told
 }
 
-fn print_labels(rt: &impl Print, file: &[u8], form: Form, counts: Counts) -> io::Result<()>
-    requires { file_reading file.now ≡ Ok (contents_of form counts) }
+fn print_labels(rt: &impl Print, file: &[u8], contents: Contents) -> io::Result<()>
+    requires { file_reading file.now ≡ Ok contents }
 {
-    for number in 0..counts.labels {
-        print_label(rt, label_file::label_at(file, form, counts, number))?;
+    for number in 0..contents.counts.labels {
+        print_label(rt, label_file::label_at(file, contents, number))?;
     }
     Ok(())
 }
@@ -102,9 +101,9 @@ fn list(rt: &impl Print, file: &[u8]) -> io::Result<()> {
     let size = file.len();
     match label_file::read(file, size) {
         Err(refused) => print_refusal(rt, refused),
-        Ok(Contents { form, counts }) => {
-            print_counts(rt, counts)?;
-            print_labels(rt, file, form, counts)
+        Ok(contents) => {
+            print_counts(rt, contents.counts)?;
+            print_labels(rt, file, contents)
         }
     }
 }

@@ -1,7 +1,7 @@
 -- What the functions ask and owe. Assumes nothing.
 use Rattle.std.specs.Prelude.{◌≡◌, ℕ, ◌^◌, ◌≤◌, ℤ, Err, Ok, Result}
 use Rattle.integer.specs.Bound.{Within}
-use Rattle.trig.specs.Contract.{SinesAt}
+use Rattle.trig.specs.Sines.{SinesAt}
 use Rattle.kepler.specs.Bracket.{Bracketed}
 use Rattle.kepler.specs.Demand.{Demand3}
 use Rattle.position.specs.Box.{PlaneBox, CelestialBox}

@@ -5,7 +5,7 @@ mod ellipse;
 mod turns;
 
 ghost use Rattle.std.specs.Prelude.{◌≡◌, ◌≤◌};
-ghost use Rattle.trig.specs.Contract.{SinesAt};
+ghost use Rattle.trig.specs.Sines.{SinesAt};
 ghost use Rattle.orbit.specs.Placement.{node_at};
 ghost use Rattle.elements.specs.Time.{checked_at};
 ghost use Rattle.orbit.specs.Contract.{PlaneFor, Shape, InPlane, StateAt, PlacedAt};
@@ -50,6 +50,7 @@ impl Plane {
 
 // The node as drifted at a time that passed the checks. Labelling needs its sines twice: for the
 // position and for the Sun's elevation.
+#[tactic(auto, unfolding(crate::specs::Placement::node_at))]
 pub fn node_at(elements: Elements, time: i64) -> Sines
     requires { checked_at elements time ≡ Ok tt }
     ensures { SinesAt (node_at elements time) result }
@@ -71,7 +72,7 @@ fn in_plane(a: u32, e: u32, minor_axis: u32, cosine: i64, sine: i64) -> Position
 // The state at a time that passed the checks: the plane is computed once for all times, and the node
 // once for the time.
 pub fn state_at(elements: Elements, plane: Plane, node: Sines, time: i64) -> State
-    requires { (checked_at elements time ≡ Ok tt) × PlaneFor elements plane × SinesAt (node_at elements time) node }
+    requires { (checked_at elements time ≡ Ok tt) × PlaneFor elements plane × (node.angle ≡ node_at elements time) }
     ensures { StateAt elements time result }
 {
     let a = elements.semi_major_axis;

@@ -7,7 +7,7 @@ ghost use Rattle.std.specs.Prelude.{◌≡◌, ◌+◌, ◌*◌, ◌≤◌, ◌<
 ghost use Rattle.integer.specs.Bound.{Within};
 ghost use Rattle.integer.specs.Contract.{FloorDivided};
 ghost use Rattle.integer.specs.Division.{mod_z};
-ghost use Rattle.trig.specs.Contract.{SinesAt};
+ghost use Rattle.trig.specs.Sines.{SinesAt};
 ghost use Rattle.elements.specs.Time.{checked_at};
 ghost use Rattle.orbit.specs.Turns.{elapsed_of, linear_term, quadratic_term, drift, drifted};
 ghost use Rattle.orbit.specs.Revolution.{node_passages};
@@ -107,6 +107,7 @@ pub(crate) fn phase_at(elements: Elements, time: i64) -> Phase
 }
 
 // The drifted angle at a time, with its sines.
+#[tactic(auto, unfolding(crate::specs::Turns::drifted))]
 pub(crate) fn drift_at(elements: Elements, time: i64, angle: u32, rate: i32) -> Sines
     requires { (checked_at elements time ≡ Ok tt) × Within 200_000 rate }
     ensures { SinesAt (drifted angle rate (elapsed_of elements time)) result }

@@ -4,7 +4,7 @@ use native.Mathlib.Omega.{arith}
 use lib.IntN.{ℤ, ◌+ℤ◌, ◌-ℤ◌, ◌*ℤ◌}
 use Rattle.integer.specs.Bound.{Within}
 use Rattle.integer.proofs.Bounds.{within_add, within_sub, within_mul, within_quot, within_more}
-use Rattle.trig.specs.Contract.{SinesOf}
+use Rattle.trig.proofs.SinesOf.{sines_of}
 use Rattle.trig.specs.declared.Sines.{Sines}
 use Rattle.trig.proofs.Quarters.{S-within, C-within}
 use Rattle.position.specs.Box.{Box, PlaneBox, CelestialBox}
@@ -36,9 +36,10 @@ pub record TurnSizes (x y cosine sine : ℤ) : Type 0 where
   pub first : Within (2 ^ 32) (scaled_difference x cosine y sine)
   pub second : Within (2 ^ 32) (scaled_sum x sine y cosine)
 
-pub turn_sizes : {x y : ℤ} {angle : Sines} → Within (2 ^ 31) x × Within (2 ^ 31) y × SinesOf angle
+pub turn_sizes : {x y : ℤ} (angle : Sines) → Within (2 ^ 31) x × Within (2 ^ 31) y
     → TurnSizes x y angle.cosine angle.sine
-turn_sizes (h, k, a) =
+turn_sizes angle (h, k) =
+    let a = sines_of angle in
     let d = within_sub (within_mul h a.cosine_within) (within_mul k a.sine_within) in
     let s = within_add (within_mul h a.sine_within) (within_mul k a.cosine_within) in
     record {

@@ -10,16 +10,15 @@ use Rattle.integer.proofs.TwosComplement.{read_within}
 use Rattle.trig.specs.Sine.{S, C}
 use Rattle.position.specs.Contract.{TurnedPair}
 use Rattle.position.specs.Turn.{turned_first, turned_second, earth_fixed_of}
-use Rattle.position.specs.declared.Pair.{Pair}
 use Rattle.position.specs.declared.Position.{Position}
 
 pub same_position : {a b c x y z : ℤ} → a ≡ x → b ≡ y → c ≡ z
     → ◌≡◌ {A = Position} (record { x = a; y = b; z = c }) (record { x = x; y = y; z = z })
 same_position p q r = λ i. record { x = p i; y = q i; z = r i }
 
-module _ {x y : ℤ} {angle : ℕ} {r : Pair} (h : Within (2 ^ 31) x) (k : Within (2 ^ 31) y) where
-  pub read_turned : TurnedPair (to_z w64 (of_z w64 x)) (to_z w64 (of_z w64 y)) angle r → SFits w64 r.first → SFits w64 r.second
-      → (to_z w64 (of_z w64 r.first) ≡ turned_first x y angle) × (to_z w64 (of_z w64 r.second) ≡ turned_second x y angle)
+module _ {x y : ℤ} {angle : ℕ} {r : ℤ × ℤ} (h : Within (2 ^ 31) x) (k : Within (2 ^ 31) y) where
+  pub read_turned : TurnedPair (to_z w64 (of_z w64 x)) (to_z w64 (of_z w64 y)) angle r → SFits w64 r.0 → SFits w64 r.1
+      → (to_z w64 (of_z w64 r.0) ≡ turned_first x y angle) × (to_z w64 (of_z w64 r.1) ≡ turned_second x y angle)
   read_turned t f g =
       let p = read_within h tt in
       let q = read_within k tt in

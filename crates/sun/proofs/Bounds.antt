@@ -1,9 +1,9 @@
 -- Bounds of the Sun's angles and of its direction. Assumes nothing.
-use Rattle.std.proofs.Common.{◌≡◌, ℕ, ◌^◌, ◌<◌, ℤ, pos, arith, lit≤, w64, to_z}
+use Rattle.std.proofs.Common.{◌≡◌, ℕ, ◌^◌, ◌<◌, ℤ, pos, arith, ◌∙◌, lit≤, w64, to_z, of_z, to_z-of_z}
 use mathlib.Core.Path.{subst⁻¹}
 use mir.Facts.{to_z_pos}
 use Rattle.integer.specs.Bound.{Within}
-use Rattle.integer.proofs.Bounds.{within_add, within_mul, within_quot, within_more, within_pos}
+use Rattle.integer.proofs.Bounds.{within_add, within_mul, within_quot, within_more, within_pos, sfits_within}
 use Rattle.trig.specs.Angle.{angle_of}
 use Rattle.trig.proofs.Angles.{angle_below}
 use Rattle.trig.proofs.Quarters.{S-within, C-within}
@@ -33,6 +33,10 @@ centre_within ma =
 
 pub centre_at : {r : ℤ} (ma : ℕ) → r ≡ centre_of ma → CentreAt ma r
 centre_at ma e = record { is = e; small = subst⁻¹ (Within (2 ^ 33)) e (centre_within ma) }
+
+-- the same of a sum, as it is read back
+pub centre_read : {z : ℤ} (ma : ℕ) → z ≡ centre_of ma → CentreAt ma (to_z w64 (of_z w64 z))
+centre_read ma e = centre_at ma (to_z-of_z {w = w64} (rw e (sfits_within (centre_within ma) tt)) ∙ e)
 
 pub direction_within : (tl : ℕ) → WithinOne (direction_of tl)
 unfolding direction_of

@@ -80,19 +80,20 @@ fn mean_angle(at_epoch: u32, time: i64, divisor: u64) -> u32
     ensures { result ≡ (at_epoch + part_turn (pos 3125 *ℤ time) divisor) % 2 ^ 32 }
 {
     let part = part_turn(3125 * time, divisor);
-    std::num::wrapping_add_u32(at_epoch, part)
+    at_epoch.wrapping_add(part)
 }
 
 // The equation of the centre.
 fn centre(mean_anomaly: u32) -> i64
     ensures { CentreAt mean_anomaly result }
 {
-    let twice = std::num::wrapping_add_u32(mean_anomaly, mean_anomaly);
+    let twice = mean_anomaly.wrapping_add(mean_anomaly);
     let first = integer::scaled(CENTRE_OF_ONCE, trig::sine(mean_anomaly));
     let second = integer::scaled(CENTRE_OF_TWICE, trig::sine(twice));
     first + second
 }
 
+#[tactic(auto, unfolding(crate::specs::Sun::true_longitude))]
 fn true_longitude(mean_longitude: u32, mean_anomaly: u32) -> u32
     ensures { result ≡ true_longitude mean_longitude mean_anomaly }
 {
@@ -100,11 +101,13 @@ fn true_longitude(mean_longitude: u32, mean_anomaly: u32) -> u32
 }
 
 // GHAA. Half a turn off an angle is half a turn added to it.
+#[tactic(auto, unfolding(crate::specs::Sun::hour_angle))]
 fn hour_angle(mean_longitude: u32, time: i64) -> u32
     ensures { result ≡ hour_angle mean_longitude time }
 {
-    let opposite = std::num::wrapping_add_u32(mean_longitude, HALF_TURN);
-    std::num::wrapping_add_u32(opposite, part_turn(time, 86_400))
+    mean_longitude
+        .wrapping_add(HALF_TURN)
+        .wrapping_add(part_turn(time, 86_400))
 }
 
 fn direction_at(true_longitude: u32) -> Direction

@@ -10,3 +10,4 @@ pub mod Cap
 pub mod Accuracy
 pub mod Signs
 pub mod Slope
+pub mod SinesOf

@@ -1,9 +1,8 @@
 -- Bounds of the products and quotients of the series. Assumes nothing.
-use mathlib.Core.Path.{◌≡◌}
-use Prim.Native.Nat.{ℕ, min, ◌*◌, ◌/◌, ◌^◌, ◌≤◌}
+use Prim.Native.Nat.{ℕ, ◌*◌, ◌/◌, ◌^◌, ◌≤◌}
 use native.Mathlib.Nat.{mul-le-mul, mul-le-mul_right, le_trans, div-le_of_le-mul}
 use native.Mathlib.Omega.{arith}
-use Rattle.trig.specs.Sine.{radians, square, series, uncapped, quarter_sine}
+use Rattle.trig.specs.Sine.{quarter_sine}
 
 -- what a step takes from 2^30 is at most 2^30
 pub quotient_le : (z v d : ℕ) → z ≤ 2_649_351_757 → v ≤ 2 ^ 30 → 6 ≤ d → z * v / 2 ^ 30 / d ≤ 2 ^ 30
@@ -15,8 +14,3 @@ quotient_le z v d hz hv hd =
 pub quarter_sine_le : (r : ℕ) → quarter_sine r ≤ 2 ^ 30
 unfolding quarter_sine
 quarter_sine_le r = omega arith
-
--- the quarter's sine from the numbers that its steps gave
-pub quarter_sine_is : (r x z : ℕ) {v : ℕ} → x ≡ radians r → z ≡ square x → v ≡ series z → quarter_sine r ≡ min (x * v / 2 ^ 30) (2 ^ 30)
-unfolding quarter_sine uncapped
-quarter_sine_is r x z ex ez ev = rw (ev, ez, ex)

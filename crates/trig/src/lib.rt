@@ -3,9 +3,9 @@
 
 ghost use Rattle.std.specs.Prelude.{◌≡◌, ◌≤◌, ◌^◌, nat_abs};
 ghost use Rattle.trig.specs.Angle.{angle_of};
-ghost use Rattle.trig.specs.Contract.{Bounded, CosineAt, SinesAt};
+ghost use Rattle.trig.specs.Contract.{Bounded, CosineAt};
 ghost use Rattle.trig.specs.ExactSine.{SineAt};
-ghost use Rattle.trig.specs.Sine.{radians, square, horner_step, series, quarter_sine, S};
+ghost use Rattle.trig.specs.Sine.{radians, square, horner_step, series, quarter_sine, S, C};
 
 // One, in units of 2^-30; as an angle, a quarter turn.
 pub const ONE: u64 = 0x4000_0000;
@@ -20,9 +20,12 @@ pub struct Sines {
     pub angle: u32,
     pub sine: i64,
     pub cosine: i64,
+    pub ghost sine_is: { sine ≡ S angle },
+    pub ghost cosine_is: { cosine ≡ C angle },
 }
 
 // The angle of some ten-thousandths of a degree.
+#[tactic(auto, unfolding(crate::specs::Angle::angle_of))]
 pub fn angle(ten_thousandths: u32) -> u32
     ensures { result ≡ angle_of ten_thousandths }
 {
@@ -30,6 +33,7 @@ pub fn angle(ten_thousandths: u32) -> u32
     (turns % TURN) as u32
 }
 
+#[tactic(auto, unfolding(crate::specs::Sine::radians))]
 fn radians(r: u64) -> u64
     requires { r ≤ 2 ^ 30 }
     ensures { Bounded 1_686_629_713 (radians r) result }
@@ -37,6 +41,7 @@ fn radians(r: u64) -> u64
     r * 1_686_629_713 / ONE
 }
 
+#[tactic(auto, unfolding(crate::specs::Sine::square))]
 fn square(x: u64) -> u64
     requires { x ≤ 1_686_629_713 }
     ensures { Bounded 2_649_351_757 (square x) result }
@@ -44,6 +49,7 @@ fn square(x: u64) -> u64
     x * x / ONE
 }
 
+#[tactic(auto, unfolding(crate::specs::Sine::horner_step))]
 fn horner_step(z: u64, v: u64, divisor: u64) -> u64
     requires { (z ≤ 2_649_351_757) × (v ≤ 2 ^ 30) × (6 ≤ divisor) }
     ensures { Bounded (2 ^ 30) (horner_step z v divisor) result }
@@ -51,6 +57,7 @@ fn horner_step(z: u64, v: u64, divisor: u64) -> u64
     ONE - z * v / ONE / divisor
 }
 
+#[tactic(auto, unfolding(crate::specs::Sine::series))]
 fn series(z: u64) -> u64
     requires { z ≤ 2_649_351_757 }
     ensures { Bounded (2 ^ 30) (series z) result }
@@ -65,6 +72,7 @@ fn series(z: u64) -> u64
 }
 
 // The sine of an arc in the first quarter.
+#[tactic(auto, unfolding(crate::specs::Sine::quarter_sine, crate::specs::Sine::uncapped))]
 fn quarter_sine(r: u64) -> u64
     requires { r ≤ 2 ^ 30 }
     ensures { Bounded (2 ^ 30) (quarter_sine r) result }
@@ -73,19 +81,16 @@ fn quarter_sine(r: u64) -> u64
     let z = square(x);
     let v = series(z);
     let s = x * v / ONE;
-    if s < ONE { s } else { ONE }
+    s.min(ONE)
 }
 
 // |S|
+#[tactic(auto, using(crate::proofs::Signs::magnitude_at))]
 pub fn sine_magnitude(angle: u32) -> u64
     ensures { Bounded (2 ^ 30) (nat_abs (S angle)) result }
 {
     let a = angle as u64 % HALF_TURN;
-    if a < ONE {
-        quarter_sine(a)
-    } else {
-        quarter_sine(HALF_TURN - a)
-    }
+    quarter_sine(a.min(HALF_TURN - a))
 }
 
 // S
@@ -96,11 +101,12 @@ pub fn sine(angle: u32) -> i64
     if angle < 0x8000_0000 {
         magnitude
     } else {
-        0 - magnitude
+        -magnitude
     }
 }
 
 // C
+#[tactic(auto, unfolding(crate::specs::Sine::C))]
 pub fn cosine(angle: u32) -> i64
     ensures { CosineAt angle result }
 {
@@ -109,6 +115,8 @@ pub fn cosine(angle: u32) -> i64
 }
 
 impl Sines {
+    ghost use Rattle.trig.specs.Sines.{SinesAt};
+
     pub fn of(angle: u32) -> Sines
         ensures { SinesAt angle result }
     {

@@ -1,3 +1,4 @@
+pub mod BadFields
 pub mod Checksums
 pub mod Epochs
 pub mod Readings

@@ -2,23 +2,23 @@
 ghost use Rattle.std.specs.Prelude.{◌≡◌, ◌^◌, ◌≤◌};
 ghost use Rattle.two_line.specs.Reading.{microseconds, seconds_of, epoch_of, amount_of, moved_back, revolution_back};
 
-use two_line_fields::Form;
+use two_line_fields::DAY;
 
 // The millionths of a second from the start of the epoch's day.
 #[tactic(auto, unfolding(crate::specs::Reading::microseconds))]
 fn microseconds(first: &[u8]) -> u64
     ensures { result ≡ microseconds first.now }
 {
-    two_line_fields::value(first, 21, Form::Day) % 100_000_000 * 864
+    two_line_fields::value(first, DAY) % 100_000_000 * 864
 }
 
 // The full seconds from 1957 Jan 0.0.
-#[tactic(auto, unfolding(crate::specs::Reading::seconds_of))]
+#[tactic(auto, using(two_line_fields::proofs::Values::year_range, two_line_fields::proofs::Values::days_small, two_line_fields::proofs::Values::day_small, crate::proofs::Epochs::microseconds_small), unfolding(crate::specs::Reading::seconds_of))]
 fn seconds(first: &[u8]) -> u64
     ensures { result ≡ seconds_of first.now }
 {
     let before = two_line_fields::days_before(first);
-    let day = two_line_fields::value(first, 21, Form::Day) / 100_000_000;
+    let day = two_line_fields::value(first, DAY) / 100_000_000;
     86_400 * (before + day) + microseconds(first) / 1_000_000
 }
 
@@ -36,7 +36,7 @@ pub(crate) fn amount(mean_motion: u32, first: &[u8]) -> u64
     ensures { result ≡ amount_of mean_motion first.now }
 {
     let part = microseconds(first) % 1_000_000;
-    mean_motion as u64 * part * 2_048 / 4_119_873_046_875
+    u64::from(mean_motion) * part * 2_048 / 4_119_873_046_875
 }
 
 // No mean motion of 32 bits turns a whole turn in a second, which the `requires` asks.
@@ -45,10 +45,11 @@ pub(crate) fn moved_back(angle: u32, amount: u64) -> u32
     requires { amount ≤ 2 ^ 32 }
     ensures { result ≡ moved_back angle amount }
 {
-    if (angle as u64) < amount {
-        (angle as u64 + 0x1_0000_0000 - amount) as u32
+    let angle = u64::from(angle);
+    if angle < amount {
+        (angle + 0x1_0000_0000 - amount) as u32
     } else {
-        (angle as u64 - amount) as u32
+        (angle - amount) as u32
     }
 }
 

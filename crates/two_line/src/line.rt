@@ -6,10 +6,7 @@ ghost use Rattle.two_line.specs.Lines.{begins, weight, checksum_holds};
 pub(crate) fn begins(number: u8, line: &[u8]) -> bool
     ensures { result ≡ begins number line.now }
 {
-    if line.len() != 69 {
-        return false;
-    }
-    two_line_fields::byte(line, 1) == number
+    line.len() == 69 && two_line_fields::byte(line, 1) == number
 }
 
 fn weight(byte: u8) -> u64
@@ -22,15 +19,13 @@ fn weight(byte: u8) -> u64
 }
 
 // Whether column 69 has the checksum of those ahead of it.
-#[tactic(auto, unfolding(crate::specs::Lines::checksum_holds))]
+#[tactic(auto, using(crate::proofs::Checksums::weight_small, crate::proofs::Checksums::weight_to_small), unfolding(crate::specs::Lines::checksum_holds))]
 pub(crate) fn checksum_holds(line: &[u8]) -> bool
     ensures { result ≡ checksum_holds line.now }
 {
-    let mut sum: u64 = 0;
-    let mut column: u32 = 0;
-    while column < 68 {
-        column += 1;
+    let mut sum = 0;
+    for column in 1..=68 {
         sum += weight(two_line_fields::byte(line, column));
     }
-    two_line_fields::byte(line, 69) as u64 == 48 + sum % 10
+    u64::from(two_line_fields::byte(line, 69)) == 48 + sum % 10
 }

@@ -7,7 +7,7 @@ use native.Mathlib.Nat.{pow-succ', one-le-pow, mul-le-mul_right, mul-le-mul_left
 use native.Mathlib.Omega.{arith}
 use Rattle.digit.specs.Digit.{digit_value}
 use Rattle.digit.proofs.Range.{digit_small}
-use Rattle.two_line_fields.specs.declared.Decimal.{Decimal}
+use Rattle.std.specs.Prelude.{Option, unwrap_or}
 use Rattle.two_line_fields.specs.Decimals.{byte_of, number, bad, digit_or_blank, leads_on, further}
 
 -- ---- column i of some columns, with the number of those ahead of it
@@ -49,6 +49,9 @@ room_behind m d columns i b h l r =
     let left : columns - i ≡ suc (columns - (i + 1)) = omega arith in
     le_trans (digit_behind m d (columns - (i + 1)) l) (rw left at r)
 
+-- what one column does
+pub ruleset column_laws = (column_taken, column_bad, all_taken, room_behind, digit_small)
+
 pub room_for_one : (m n b : ℕ) → 0 < n → (m + 1) * 10 ^ n ≤ b → (m + 1) * 10 ≤ b
 room_for_one m zero b l r = elim l [ ]
 room_for_one m (suc n) b l r =
@@ -56,11 +59,11 @@ room_for_one m (suc n) b l r =
     le_trans (mul-le-mul_left (m + 1) (rw (← pow-succ' 10 n) at one)) r
 
 -- a number, or none
-pub small_either : (t : Bool) (d : Decimal) {b : ℕ} → d.value + 1 ≤ b → 1 ≤ b → (cond t d bad).value + 1 ≤ b
+pub small_either : (t : Bool) (d : Option ℕ) {b : ℕ} → unwrap_or d 0 + 1 ≤ b → 1 ≤ b → unwrap_or (cond t d bad) 0 + 1 ≤ b
 small_either true d h l = h
 small_either false d h l = l
 
-pub further_small : (line : List ℕ) (column n : ℕ) (leading : Bool) (m : ℕ) → (further line column n leading m).value + 1 ≤ (m + 1) * 10 ^ n
+pub further_small : (line : List ℕ) (column n : ℕ) (leading : Bool) (m : ℕ) → unwrap_or (further line column n leading m) 0 + 1 ≤ (m + 1) * 10 ^ n
 unfolding further
 further_small line column zero leading m = omega (arith, mul-one (m + 1))
 further_small line column (suc n) leading m =

@@ -1,7 +1,8 @@
 -- The columns are those of the published layout. Assumes nothing.
 use mathlib.Core.Path.{◌≡◌, refl}
 use mathlib.Core.List.{[], ◌∷◌, map}
-use Rattle.two_line_fields.specs.Layout.{Field, day, half_derivative, inclination, node, argument_of_perigee, mean_anomaly, mean_motion, first_line, second_line, last_column, point_column}
+use Rattle.two_line_fields.specs.declared.columns.Field.{Field}
+use Rattle.two_line_fields.specs.Layout.{day, half_derivative, inclination, node, argument_of_perigee, mean_anomaly, mean_motion, first_line, second_line, last_column, point_column}
 
 -- line 1: 3 to 7, 19 to 20, 21 to 32, 34 to 43
 pub first_line_lem : (map (λ (f : Field). f.column) first_line ≡ 3 ∷ 19 ∷ 21 ∷ 34 ∷ []) × (map last_column first_line ≡ 7 ∷ 20 ∷ 32 ∷ 43 ∷ [])

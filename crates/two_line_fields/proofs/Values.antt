@@ -7,14 +7,14 @@ use native.Mathlib.Nat.{one-le-pow}
 use native.Mathlib.Omega.{arith}
 use borrow.Author.Tests.{ltb-true, ltb-false}
 use lib.Dec.{ltb}
-use Rattle.two_line_fields.specs.declared.Decimal.{Decimal}
+use Rattle.std.specs.Prelude.{Option, unwrap_or}
+use Rattle.two_line_fields.specs.declared.columns.Field.{Field}
 use Rattle.two_line_fields.specs.declared.Form.{Form}
 use Rattle.two_line_fields.specs.declared.Form.TheVariants.{Number, Year, Day, HalfDerivative, Angle, Eccentricity, MeanMotion}
 use Rattle.two_line_fields.specs.Calendar.{full_year, days_before}
-use Rattle.two_line_fields.specs.Contract.{InLine}
 use Rattle.two_line_fields.specs.Decimals.{bad, decimal_of}
 use Rattle.two_line_fields.specs.Fields.{year_of, allowed, field_of, value_of}
-use Rattle.two_line_fields.specs.Layout.{Field, layout_of, day}
+use Rattle.two_line_fields.specs.Layout.{layout_of, day}
 use Rattle.two_line_fields.proofs.Digits.{small_either}
 use Rattle.two_line_fields.proofs.Layouts.{decimal_small}
 
@@ -31,38 +31,25 @@ few_digits Angle = omega arith
 few_digits Eccentricity = omega arith
 few_digits MeanMotion = omega arith
 
-pub in_line : (column : ℕ) (form : Form) → (1 ≤ column) × (column ≤ 69) → InLine column (layout_of form)
-in_line column form h = record { from = h.0; to = h.1; digits = few_digits form }
-
--- a number that is allowed, or one that is not
-module _ (line : List ℕ) (f : Field) (d : Decimal) (e : d ≡ decimal_of line f.column (layout_of f.form)) where
-  pub field_allowed : allowed line f.form d.value ≡ true → d ≡ field_of line f
-  unfolding field_of
-  field_allowed a = rw (← e, a)
-
-  pub field_bad : allowed line f.form d.value ≡ false → bad ≡ field_of line f
-  unfolding field_of
-  field_bad a = rw (← e, a)
-
 pub value_small : (line : List ℕ) (f : Field) → value_of line f + 1 ≤ 10 ^ digits f.form
 unfolding field_of
 value_small line f =
     let d = decimal_of line f.column (layout_of f.form) in
-    small_either (allowed line f.form d.value) d (decimal_small line f.column (layout_of f.form)) (one-le-pow (digits f.form) 10 (omega arith))
+    small_either (allowed line f.form (unwrap_or d 0)) d (decimal_small line f.column (layout_of f.form)) (one-le-pow (digits f.form) 10 (omega arith))
 
-pub angle_small : (line : List ℕ) (column : ℕ) → value_of line (record { column = column; form = Angle }) < 3_600_000
+pub angle_small : (line : List ℕ) (f : Field) → f.form ≡ Angle → value_of line f < 3_600_000
 unfolding field_of
-angle_small line column =
-    let d = decimal_of line column (layout_of Angle) in
-    either (ltb d.value 3_600_000) d (ltb-true d.value 3_600_000)
+angle_small line f e =
+    let d = decimal_of line f.column (layout_of Angle) in
+    rw e (either (ltb (unwrap_or d 0) 3_600_000) d (ltb-true (unwrap_or d 0) 3_600_000))
   where
-    either : (t : Bool) (d : Decimal) → (t ≡ true → d.value < 3_600_000) → (cond t d bad).value < 3_600_000
+    either : (t : Bool) (d : Option ℕ) → (t ≡ true → unwrap_or d 0 < 3_600_000) → unwrap_or (cond t d bad) 0 < 3_600_000
     either true d h = h refl
     either false d h = omega arith
 
 -- ---- the epoch
 
-pub year_digits : (line : List ℕ) → (decimal_of line 19 (layout_of Year)).value ≤ 99
+pub year_digits : (line : List ℕ) → unwrap_or (decimal_of line 19 (layout_of Year)) 0 ≤ 99
 year_digits line = omega (arith, decimal_small line 19 (layout_of Year))
 
 full_year_range : (digits : ℕ) → digits ≤ 99 → (1957 ≤ full_year digits) × (full_year digits ≤ 2056)

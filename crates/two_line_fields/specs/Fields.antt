@@ -1,15 +1,15 @@
 -- The fields of two lines, and the first that is bad: document 01, "Two-line elements", and refusal 19. Assumes nothing.
-use Rattle.std.specs.Prelude.{ℕ, ◌+◌, ◌/◌, ◌^◌, Bool, true, ◌&&◌, cond, List, [], ◌∷◌, ltb, leb}
+use Rattle.std.specs.Prelude.{ℕ, ◌+◌, ◌/◌, ◌^◌, Bool, true, ◌&&◌, cond, List, [], ◌∷◌, ltb, leb, Option, is_some, unwrap_or}
 use Rattle.two_line_fields.specs.Calendar.{full_year, days_in}
 use Rattle.two_line_fields.specs.Decimals.{bad, decimal_of}
-use Rattle.two_line_fields.specs.Layout.{Field, layout_of, year, first_line, second_line}
-use Rattle.two_line_fields.specs.declared.Decimal.{Decimal}
+use Rattle.two_line_fields.specs.Layout.{layout_of, year, first_line, second_line}
+use Rattle.two_line_fields.specs.declared.columns.Field.{Field}
 use Rattle.two_line_fields.specs.declared.Form.{Form}
 use Rattle.two_line_fields.specs.declared.Form.TheVariants.{Number, Year, Day, HalfDerivative, Angle, Eccentricity, MeanMotion}
 
 -- the year that line 1 has
 unfoldable pub year_of : List ℕ → ℕ
-year_of line = full_year (decimal_of line year.column (layout_of year.form)).value
+year_of line = full_year (unwrap_or (decimal_of line year.column (layout_of year.form)) 0)
 
 -- a day, in units of 10^-8 day, is one of its year, from 1 on
 abbrev pub day_allowed : List ℕ → ℕ → Bool
@@ -26,17 +26,17 @@ allowed line Eccentricity value = true
 allowed line MeanMotion value = true
 
 -- what a field of a line holds
-unfoldable pub field_of : List ℕ → Field → Decimal
+unfoldable pub field_of : List ℕ → Field → Option ℕ
 field_of line f =
     let d = decimal_of line f.column (layout_of f.form) in
-    cond (allowed line f.form d.value) d bad
+    cond (allowed line f.form (unwrap_or d 0)) d bad
 
 abbrev pub value_of : List ℕ → Field → ℕ
-value_of line f = (field_of line f).value
+value_of line f = unwrap_or (field_of line f) 0
 
 -- the place of a field that is bad, its first column behind those of the lines ahead, or else the one that follows
 unfoldable pub place_or : ℕ → List ℕ → Field → ℕ → ℕ
-place_or ahead line f later = cond (field_of line f).sound later (ahead + f.column)
+place_or ahead line f later = cond (is_some (field_of line f)) later (ahead + f.column)
 
 -- of the first bad field of some
 abbrev pub bad_from : ℕ → List ℕ → List Field → ℕ → ℕ

@@ -1,6 +1,7 @@
 -- The layout of two-line elements: document 01, "Two-line elements". Columns count from 1. Assumes nothing.
-use Rattle.std.specs.Prelude.{ℕ, ◌+◌, ◌-◌, true, false, List, [], ◌∷◌}
+use Rattle.std.specs.Prelude.{ℕ, ◌+◌, ◌-◌, T, true, false, ◌&&◌, leb, List, [], ◌∷◌}
 use Rattle.two_line_fields.specs.Decimals.{width}
+use Rattle.two_line_fields.specs.declared.columns.Field.{Field}
 use Rattle.two_line_fields.specs.declared.Form.{Form}
 use Rattle.two_line_fields.specs.declared.Form.TheVariants.{Number, Year, Day, HalfDerivative, Angle, Eccentricity, MeanMotion}
 use Rattle.two_line_fields.specs.declared.Layout.{Layout}
@@ -26,52 +27,48 @@ layout_of MeanMotion = record { sign = false; ahead = 2; blanks = true; point = 
 
 -- ---- the fields of each line
 
--- a field: its first column, and its form
-pub record Field : Type 0 where
-  pub column : ℕ
-  pub form : Form
-
-abbrev at : ℕ → Form → Field
-at column form = record { column = column; form = form }
+-- a field: its first column, which is one of the 69, and its form
+abbrev at : (column : ℕ) → Form → T (leb 1 column && leb column 69) → Field
+at column form h = record { column = column; form = form; on_line = h }
 
 -- on either line
 abbrev pub satellite_number : Field
-satellite_number = at 3 Number
+satellite_number = at 3 Number tt
 
 -- on line 1
 abbrev pub year : Field
-year = at 19 Year
+year = at 19 Year tt
 
 abbrev pub day : Field
-day = at 21 Day
+day = at 21 Day tt
 
 abbrev pub half_derivative : Field
-half_derivative = at 34 HalfDerivative
+half_derivative = at 34 HalfDerivative tt
 
 abbrev pub first_line : List Field
 first_line = satellite_number ∷ year ∷ day ∷ half_derivative ∷ []
 
 -- on line 2
 abbrev pub inclination : Field
-inclination = at 9 Angle
+inclination = at 9 Angle tt
 
 abbrev pub node : Field
-node = at 18 Angle
+node = at 18 Angle tt
 
 abbrev pub eccentricity : Field
-eccentricity = at 27 Eccentricity
+eccentricity = at 27 Eccentricity tt
 
 abbrev pub argument_of_perigee : Field
-argument_of_perigee = at 35 Angle
+argument_of_perigee = at 35 Angle tt
 
 abbrev pub mean_anomaly : Field
-mean_anomaly = at 44 Angle
+mean_anomaly = at 44 Angle tt
 
 abbrev pub mean_motion : Field
-mean_motion = at 53 MeanMotion
+mean_motion = at 53 MeanMotion tt
 
 abbrev pub revolution : Field
-revolution = at 64 Number
+revolution = at 64 Number tt
 
 abbrev pub second_line : List Field
 second_line = satellite_number ∷ inclination ∷ node ∷ eccentricity ∷ argument_of_perigee ∷ mean_anomaly ∷ mean_motion ∷ revolution ∷ []

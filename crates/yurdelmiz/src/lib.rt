@@ -264,7 +264,7 @@ pub fn yurdelmiz_read(file: &[u8], size: usize, answer: &mut [u8]) -> u64
     match reading {
         Err(refused) => statuses::status_at(refused.refusal.number(), refused.place),
         Ok(contents) => {
-            buffers::write_reading(answer, contents.form, contents.counts);
+            buffers::write_reading(answer, contents);
             0
         }
     }

@@ -13,7 +13,6 @@ use Rattle.eclipse.specs.Shade.{spread, umbra_radius, penumbra_radius, below_squ
 use Rattle.eclipse.specs.Contract.{RadiusBound, SpreadAt}
 use Rattle.eclipse.proofs.Bounds.{umbra_within, penumbra_within}
 use Rattle.eclipse.proofs.shade_behind.Goals as goal
-use Rattle.eclipse.proofs.shade_behind.Goals.{After-below_square, After-below_square-2}
 
 -- a radius from its spread, with the numbers as they are read back
 module _ (radius : ℤ → ℤ) (within : (s : ℤ) → Within (2 ^ 24) s → RadiusBound (radius s)) where
@@ -30,29 +29,22 @@ umbra s = pos 6_378_000 -ℤ s
 abbrev penumbra : ℤ → ℤ
 penumbra s = pos 6_378_000 +ℤ s
 
-dark_is : (c : After-below_square) → let a = c.args in c.below_square.result ≡ below_square a.squared_side (umbra_radius a.depth)
-unfolding umbra_radius
-dark_is c =
-    let f = c.ranges in
-    told umbra umbra_within f.depth f.squared_side c.spread-umbra.ensures c.below_square.ensures
-
-part_is : (c : After-below_square-2) → let a = c.args in
-    c.below_square-2.result ≡ below_square a.squared_side (penumbra_radius a.depth)
-unfolding penumbra_radius
-part_is c =
-    let f = c.ranges in
-    told penumbra penumbra_within f.depth f.squared_side c.spread-penumbra.ensures c.below_square-2.ensures
-
 pub returns-then-below_square : goal.returns-then-below_square
-unfolding shade_behind
-returns-then-below_square c = rw (← (dark_is (goal.at.returns-then-below_square c).After-below_square), c.if-below_square.true)
+unfolding shade_behind umbra_radius
+returns-then-below_square c =
+    let d = told umbra umbra_within c.ranges.depth c.ranges.squared_side c.spread-umbra.ensures c.below_square.ensures in
+    rw (← d, c.if-below_square.true)
 
 pub returns-then-below_square-2 : goal.returns-then-below_square-2
-unfolding shade_behind
+unfolding shade_behind umbra_radius penumbra_radius
 returns-then-below_square-2 c =
-    rw (← (dark_is (goal.at.returns-then-below_square-2 c).After-below_square), c.if-below_square.false, ← (part_is (goal.at.returns-then-below_square-2 c).After-below_square-2), c.if-below_square-2.true)
+    let d = told umbra umbra_within c.ranges.depth c.ranges.squared_side c.spread-umbra.ensures c.below_square.ensures in
+    let p = told penumbra penumbra_within c.ranges.depth c.ranges.squared_side c.spread-penumbra.ensures c.below_square-2.ensures in
+    rw (← d, c.if-below_square.false, ← p, c.if-below_square-2.true)
 
 pub returns : goal.returns
-unfolding shade_behind
+unfolding shade_behind umbra_radius penumbra_radius
 returns c =
-    rw (← (dark_is (goal.at.returns c).After-below_square), c.if-below_square.false, ← (part_is (goal.at.returns c).After-below_square-2), c.if-below_square-2.false)
+    let d = told umbra umbra_within c.ranges.depth c.ranges.squared_side c.spread-umbra.ensures c.below_square.ensures in
+    let p = told penumbra penumbra_within c.ranges.depth c.ranges.squared_side c.spread-penumbra.ensures c.below_square-2.ensures in
+    rw (← d, c.if-below_square.false, ← p, c.if-below_square-2.false)

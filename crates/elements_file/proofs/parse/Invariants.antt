@@ -1,12 +1,8 @@
-use Prim.Native.Nat.{◌≤◌, ◌-◌}
 use mathlib.Core.Path.{◌≡◌}
-use lib.ListN.{length, drop}
+use lib.ListN.{drop}
 use Rattle.elements_file.specs.Reading.{start, after_bytes}
 use Rattle.elements_file.specs.Contract.{Consistent}
 use Rattle.elements_file.proofs.parse.Given as goal
 
-abbrev pub invariant-loop-i : goal.invariant-loop-i
-invariant-loop-i l = (l.i ≤ length l.text) × Consistent l.i l.s × (after_bytes l.s (drop l.i l.text) ≡ after_bytes start l.text)
-
-abbrev pub decreases-loop-i : goal.decreases-loop-i
-decreases-loop-i l = length l.text - l.i
+abbrev pub invariant-loop-byte : goal.invariant-loop-byte
+invariant-loop-byte l = Consistent l.byte-index l.s × (after_bytes l.s (drop l.byte-index l.text) ≡ after_bytes start l.text)

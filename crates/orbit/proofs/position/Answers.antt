@@ -23,7 +23,7 @@ node_at-node-requires c = rw (to_z-of_z c.ranges.time) (passed (goal.at.node_at-
 pub state_at-requires : goal.state_at-requires
 state_at-requires c =
     let f = to_z-of_z c.ranges.time in
-    rw f (passed (goal.at.state_at-requires c).In_ok-check_at, c.of-plane.ensures, rw f at c.node_at-node.ensures)
+    rw f (passed (goal.at.state_at-requires c).In_ok-check_at, c.of-plane.ensures, (rw f at c.node_at-node.ensures).angle_is)
 
 pub returns-in_err-check_at : goal.returns-in_err-check_at
 returns-in_err-check_at c =

@@ -5,8 +5,9 @@ use Prim.Native.Nat.{ℕ}
 use mir.Syntax.{w32, w64}
 use mir.Val.{SFits, to_z, of_z}
 use mir.Facts.{to_z-of_z}
-use Rattle.integer.proofs.TwosComplement.{read_back, read_within}
-use Rattle.trig.specs.Contract.{SinesAt}
+use Rattle.integer.proofs.TwosComplement.{read_back}
+use Rattle.trig.specs.Sines.{SinesAt}
+use Rattle.trig.proofs.SinesOf.{sine_read, cosine_read}
 use Rattle.trig.specs.Sine.{S, C}
 use Rattle.trig.specs.declared.Sines.{Sines}
 use Rattle.kepler.specs.Contract.{AnomalyAt}
@@ -47,10 +48,10 @@ sines_at c = subst (λ (r : Anomaly). SinesAt r.angle c.of-sines.result) (anomal
 
 -- its cosine and its sine, as the machine holds them
 cosine_is : {a : ℕ} {r : Sines} → SinesAt a r → to_z w64 (of_z w64 r.cosine) ≡ C a
-cosine_is h = read_within h.sines_of.cosine_within tt ∙ h.sines_of.cosine_is ∙ ap C h.angle_is
+cosine_is {r = r} h = cosine_read r ∙ ap C h.angle_is
 
 sine_is : {a : ℕ} {r : Sines} → SinesAt a r → to_z w64 (of_z w64 r.sine) ≡ S a
-sine_is h = read_within h.sines_of.sine_within tt ∙ h.sines_of.sine_is ∙ ap S h.angle_is
+sine_is {r = r} h = sine_read r ∙ ap S h.angle_is
 
 -- ---- the position and the radius
 pub in_plane-in_plane-requires : goal.in_plane-in_plane-requires
@@ -76,7 +77,7 @@ position_is c =
     let p = c.requires in
     let E = sines_at (goal.at.After-celestial c).After-of-sines in
     simp
-    (c.in_plane-in_plane.ensures.is, p.1.minor_is, cosine_is E, sine_is E, (perigee_sines (goal.at.After-celestial c).After-of-perigee).angle_is, p.1.inclination_at.angle_is, p.2.angle_is)
+    (c.in_plane-in_plane.ensures.is, p.1.minor_is, cosine_is E, sine_is E, (perigee_sines (goal.at.After-celestial c).After-of-perigee).angle_is, p.1.inclination_at.angle_is, p.2)
     at c.celestial.ensures.is
 
 pub returns : goal.returns
@@ -87,4 +88,4 @@ returns c =
     let ρ = c.radius in
     state_at el t c.requires.0
     (state_is el t (anomaly_at (goal.at.returns c).After-eccentric_anomaly-anomaly) (to_z-of_z (revolution_fits (goal.at.returns c).After-phase_at-phase) ∙ phase.revolution_is) phase.anomaly_is
-    (position_is (goal.at.returns c).After-celestial) (read_back ρ.result ρ.type_inv ∙ rw (cosine_is (sines_at (goal.at.returns c).After-of-sines)) at ρ.ensures) c.requires.2.angle_is)
+    (position_is (goal.at.returns c).After-celestial) (read_back ρ.result ρ.type_inv ∙ rw (cosine_is (sines_at (goal.at.returns c).After-of-sines)) at ρ.ensures) c.requires.2)

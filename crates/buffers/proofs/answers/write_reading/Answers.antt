@@ -11,13 +11,13 @@ use Rattle.buffers.specs.Answers.{counts_bytes, read_bytes}
 use Rattle.buffers.proofs.answers.write_reading.Goals as goal
 
 pub overflow_cast-size : goal.overflow_cast-size
-overflow_cast-size c = record { fits = omega (arith, c.size.ensures, size_bounds c.args.form) }
+overflow_cast-size c = record { fits = omega (arith, c.size.ensures, size_bounds c.args.contents.form) }
 
 pub returns : goal.returns
 unfolding read_bytes counts_bytes words bytes4
 returns c =
     let l = c.args.answer.now in
-    let counts = c.args.counts in
-    let bytes = read_bytes c.args.form counts in
+    let counts = c.args.contents.counts in
+    let bytes = read_bytes c.args.contents.form counts in
     let last = c.write.ensures ∙ ap (λ (k : ℕ). sets c.write_counts.new.answer 20 (bytes4 k)) c.size.ensures in
-    then l _ _ 0 20 (counts_bytes counts) (bytes4 (trailer_size c.args.form)) refl c.write_counts.ensures last ∙ over_all l bytes c.requires
+    then l _ _ 0 20 (counts_bytes counts) (bytes4 (trailer_size c.args.contents.form)) refl c.write_counts.ensures last ∙ over_all l bytes c.requires

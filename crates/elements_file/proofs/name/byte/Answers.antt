@@ -1,12 +1,11 @@
 -- `elements_file::name::byte` meets its contract. Assumes nothing.
-use mathlib.Core.Path.{sym}
-use Rattle.elements_file.specs.Names.{names}
-use Rattle.elements_file.proofs.Bytes.{name_read, name_past}
+use mathlib.Core.Path.{ap, ◌∙◌}
+use native.Mathlib.Nat.{le_refl}
+use Rattle.std.specs.Prelude.{unwrap_or}
+use Rattle.elements_file.specs.Names.{names, name_byte}
 use Rattle.elements_file.proofs.name.byte.Goals as goal
 
-pub returns-then-at-lt336 : goal.returns-then-at-lt336
-unfolding names
-returns-then-at-lt336 c = name_read c.args.element c.args.k c.if-at-lt336.true
-
-pub returns-else-at-lt336 : goal.returns-else-at-lt336
-returns-else-at-lt336 c = sym (name_past c.args.element c.args.k c.if-at-lt336.false)
+pub returns : goal.returns
+unfolding names name_byte
+returns c =
+    c.unwrap_or.ensures ∙ ap (λ o. unwrap_or o 32) c.copied.ensures ∙ c.get.ensures.lookup.4 (le_refl _) 32

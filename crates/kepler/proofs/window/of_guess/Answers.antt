@@ -2,12 +2,8 @@
 use Rattle.kepler.proofs.Decided.{decides, decides_middle}
 use Rattle.kepler.proofs.window.of_guess.Goals as goal
 
-pub returns-then-to : goal.returns-then-to
-returns-then-to c =
-    let s = c.before.before.before in
-    decides_middle _ _ _ _ _ s.requires.0 s.requires.2 c.before.before.around-narrow.ensures c.before.if-from.true c.if-to.true
+pub returns-then-narrow-2 : goal.returns-then-narrow-2
+returns-then-narrow-2 c = decides_middle _ _ _ _ _ c.requires.0 c.requires.2 c.around-narrow.ensures c.if-narrow.true c.if-narrow-2.true
 
-pub returns : goal.returns
-returns c =
-    let s = c.before.before.before in
-    decides _ _ _ _ _ s.requires.0 s.requires.2 c.around.ensures
+pub returns-else-narrow : goal.returns-else-narrow
+returns-else-narrow c = decides _ _ _ _ _ c.requires.0 c.requires.2 c.around.ensures

@@ -7,8 +7,8 @@ use mir.Syntax.{w64}
 use mir.Val.{to_z, of_z}
 use mir.Facts.{to_z-of_z, to_z_pos}
 use Rattle.integer.proofs.Bounds.{within_more, sfits_within}
-use Rattle.orbit.specs.Ellipse.{e30, in_plane_x}
-use Rattle.orbit.proofs.Distances.{scaled_is, offset_within, x_product_within}
+use Rattle.orbit.specs.Ellipse.{e30}
+use Rattle.orbit.proofs.Distances.{offset_within, x_product_within}
 use Rattle.orbit.proofs.ellipse.plane_x.Goals as goal
 use Rattle.orbit.proofs.ellipse.plane_x.Goals.{After-eccentricity30}
 
@@ -25,7 +25,3 @@ product_is c = rw (to_z_pos w64 {n = c.args.a} (omega arith), to_z-of_z (overflo
 
 pub scaled-requires : goal.scaled-requires
 scaled-requires c = rw (product_is c) (within_more (x_product_within c.args.a c.args.e c.args.cosine c.requires.0 c.requires.1.0 c.requires.1.1) (lit≤ tt))
-
-pub returns : goal.returns
-unfolding in_plane_x
-returns c = scaled_is _ c.scaled.type_inv c.scaled.ensures (product_is (goal.at.returns c).After-eccentricity30)

@@ -8,16 +8,12 @@ use mir.Syntax.{w64}
 use mir.Val.{to_z, of_z}
 use mir.Facts.{to_z-of_z, to_z_pos}
 use Rattle.integer.proofs.Bounds.{within_pos, within_mul, within_more}
-use Rattle.orbit.specs.Ellipse.{in_plane_y}
 use Rattle.orbit.proofs.Distances.{scaled_is, height_within}
 use Rattle.orbit.proofs.ellipse.plane_y.Goals as goal
 use Rattle.orbit.proofs.ellipse.plane_y.Goals.{After-scaled, Start}
 
 inner_is : (c : Start) → to_z w64 c.args.minor_axis *ℤ to_z w64 (of_z w64 c.args.sine) ≡ pos c.args.minor_axis *ℤ c.args.sine
 inner_is c = rw (to_z_pos w64 {n = c.args.minor_axis} (omega arith), to_z-of_z c.ranges.sine)
-
-pub scaled-requires : goal.scaled-requires
-scaled-requires c = rw (inner_is c) (within_more (within_mul (within_pos c.requires.1.0) c.requires.1.1) (lit≤ tt))
 
 height_is : (c : After-scaled) → to_z w64 (of_z w64 c.scaled.result) ≡ quot_z (pos c.args.minor_axis *ℤ c.args.sine) (pos 1073741824)
 height_is c = scaled_is _ c.scaled.type_inv c.scaled.ensures (inner_is (goal.at.After-scaled c).Start)
@@ -29,7 +25,3 @@ pub scaled-requires-2 : goal.scaled-requires-2
 scaled-requires-2 c =
     rw (outer_is c)
     (within_more (within_mul (within_pos c.requires.0) (height_within c.args.a c.args.minor_axis c.args.sine c.requires.0 c.requires.1.0 c.requires.1.1)) (lit≤ tt))
-
-pub returns : goal.returns
-unfolding in_plane_y
-returns c = scaled_is _ c.scaled-2.type_inv c.scaled-2.ensures (outer_is (goal.at.returns c).After-scaled)

@@ -9,7 +9,7 @@ use mir.Val.{to_z, of_z}
 use mir.Facts.{to_z-of_z, to_z_pos}
 use Rattle.integer.proofs.Bounds.{within_pos, within_mul, within_more, sfits_within}
 use Rattle.orbit.specs.Ellipse.{e30, radius}
-use Rattle.orbit.proofs.Distances.{e30_le, scaled_is, factor_within}
+use Rattle.orbit.proofs.Distances.{scaled_is, factor_within}
 use Rattle.orbit.proofs.ellipse.radius.Goals as goal
 use Rattle.orbit.proofs.ellipse.radius.Goals.{After-eccentricity30, After-scaled}
 
@@ -17,10 +17,6 @@ inner_is : (c : After-eccentricity30) → to_z w64 c.eccentricity30.result *ℤ 
 inner_is c =
     let k = to_z_pos w64 {n = c.eccentricity30.result} (omega (arith, c.eccentricity30.ensures.1)) ∙ ap pos c.eccentricity30.ensures.0 in
     rw (k, to_z-of_z c.ranges.cosine)
-
-pub scaled-requires : goal.scaled-requires
-scaled-requires c =
-    rw (inner_is c) (within_more (within_mul (within_pos (e30_le c.args.e c.requires.1.0)) c.requires.1.1) (lit≤ tt))
 
 term_is : (c : After-scaled) → let a = c.args in pos 1073741824 -ℤ to_z w64 (of_z w64 c.scaled.result) ≡ pos 1073741824 -ℤ quot_z (pos (e30 a.e) *ℤ a.cosine) (pos 1073741824)
 term_is c =

@@ -2,13 +2,12 @@
 use mathlib.Core.Path.{◌≡◌, ◌∙◌, sym}
 use Prim.Native.Nat.{◌*◌}
 use native.Mathlib.Omega.{arith}
-use lib.Dec.{lit<, lit≤}
 use lib.IntN.{ℤ, pos, ◌*ℤ◌}
 use mir.Syntax.{w64}
 use mir.Val.{to_z, of_z}
 use mir.Facts.{to_z-of_z, to_z_pos}
 use Rattle.integer.specs.Bound.{Within}
-use Rattle.integer.proofs.Bounds.{within_pos, within_mul, within_more, sfits_within}
+use Rattle.integer.proofs.Bounds.{within_pos, within_mul, sfits_within}
 use Rattle.orbit.specs.Turns.{linear_term}
 use Rattle.orbit.proofs.AdvanceAndDrift.{linear_floor, linear_within}
 use Rattle.orbit.proofs.turns.linear_term.Goals as goal
@@ -30,11 +29,6 @@ motion_is c =
 
 small : (c : Start) → Within (8000 * 4294967296) (linear_term c.args.mean_motion c.args.elapsed)
 small c = linear_within _ _ c.requires.0 c.requires.1
-
-pub floor_scaled-requires : goal.floor_scaled-requires
-floor_scaled-requires c =
-    rw (motion_is c)
-    (record { divisor = lit< tt; remainders = lit≤ tt; answer = within_more (rw (linear_floor _ _) at (small c)) (lit≤ tt) })
 
 pub returns : goal.returns
 returns c =

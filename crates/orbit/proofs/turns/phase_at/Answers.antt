@@ -80,15 +80,6 @@ drift_is c =
     read_back c.drift-drift.result c.drift-drift.type_inv ∙ rw (elapsed_is (goal.at.After-drift-drift c).After-elapsed-elapsed, to_z-of_z (rate_fits (goal.at.After-drift-drift c).Start)) at c.drift-drift.ensures.0
 
 -- ---- the two angles
-pub wrapped-requires : goal.wrapped-requires
-wrapped-requires c =
-    let l = within_more {b = 42949672960000} (linear_small (goal.at.wrapped-requires c).After-linear_term-linear) (lit≤ tt) in
-    let a = within_more {b = 42949672960000} (advance_small (goal.at.wrapped-requires c).After-quadratic_term-quadratic) (lit≤ tt) in
-    search rules
-
-pub wrapped-requires-2 : goal.wrapped-requires-2
-wrapped-requires-2 c = within_more (drift_small (goal.at.wrapped-requires-2 c).After-drift-drift) (lit≤ tt)
-
 -- ---- the revolution
 sum_within : {x y : ℤ} → Within (9000 * 4294967296) x → Within (1000 * 4294967296) y → Within (10000 * 4294967296) (x +ℤ y)
 sum_within h k = within_more (within_add h k) (lit≤ tt)

@@ -1,5 +1,4 @@
 -- `position::Position::celestial` meets its contract. Assumes nothing.
-use borrow.Author.Rules.{rules}
 use lib.Dec.{lit≤}
 use Rattle.position.specs.Turn.{celestial_of}
 use Rattle.position.proofs.Bounds.{box_more, box_turned_xy, box_turned_yz, celestial_box}
@@ -7,22 +6,19 @@ use Rattle.position.proofs.Position.celestial.Goals as goal
 
 pub turn_yz-requires : goal.turn_yz-requires
 turn_yz-requires c =
-    let pre = c.before.requires in
-    (rw c.turn_xy.ensures (box_more (box_turned_xy _ pre.0) (lit≤ tt) (lit≤ tt) (lit≤ tt)), search rules)
+    rw c.turn_xy.ensures (box_more (box_turned_xy _ c.requires) (lit≤ tt) (lit≤ tt) (lit≤ tt))
 
 pub turn_xy-requires-2 : goal.turn_xy-requires-2
 turn_xy-requires-2 c =
-    let pre = c.before.before.requires in
-    let box = box_turned_yz _ (box_turned_xy _ pre.0) in
-    (rw (c.turn_yz.ensures, c.before.turn_xy.ensures) (box_more box (lit≤ tt) (lit≤ tt) (lit≤ tt)), search rules)
+    let box = box_turned_yz _ (box_turned_xy _ c.requires) in
+    rw (c.turn_yz.ensures, c.turn_xy.ensures) (box_more box (lit≤ tt) (lit≤ tt) (lit≤ tt))
 
 pub returns : goal.returns
 unfolding celestial_of
 returns c =
-    let s = c.before.before.before in
-    let a = s.args in
-    let e = celestial_box a.argument_of_perigee.angle a.inclination.angle a.node.angle s.requires.0 in
+    let a = c.args in
+    let e = celestial_box a.argument_of_perigee.angle a.inclination.angle a.node.angle c.requires in
     record {
-      is = rw (c.turn_xy-2.ensures, c.before.turn_yz.ensures, c.before.before.turn_xy.ensures);
-      box = rw (c.turn_xy-2.ensures, c.before.turn_yz.ensures, c.before.before.turn_xy.ensures) e;
+      is = rw (c.turn_xy-2.ensures, c.turn_yz.ensures, c.turn_xy.ensures);
+      box = rw (c.turn_xy-2.ensures, c.turn_yz.ensures, c.turn_xy.ensures) e;
     }

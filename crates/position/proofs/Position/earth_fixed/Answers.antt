@@ -7,7 +7,6 @@ use Rattle.position.proofs.Position.earth_fixed.Goals as goal
 
 pub returns : goal.returns
 returns c =
-    let s = c.before.before.before.before.before.before in
-    let e = c.before.before.before.before.before.of.ensures.angle_is in
-    let t = read_turned s.requires.y_within s.requires.x_within (rw e at c.before.before.turned-back.ensures) (search rules) (search rules) in
-    same_position t.1 t.0 (read_within s.requires.z_within tt) ∙ turned_back s.args.self s.args.ghaa
+    let pre = c.requires in
+    let t = read_turned pre.y_within pre.x_within (rw c.of.ensures.angle_is at c.turned-y.ensures) (search rules) (search rules) in
+    same_position t.1 t.0 (read_within pre.z_within tt) ∙ turned_back c.args.self c.args.ghaa
