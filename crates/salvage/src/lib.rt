@@ -7,10 +7,7 @@ ghost use Rattle.salvage.specs.Salvage.{whole_labels};
 ghost use Rattle.salvage.specs.Contract.{Salvaged};
 
 use refusal::Refusal;
-use trailer::Form;
-
-// The most labels of a file, and so the most that are kept.
-const MOST: u32 = trailer::MOST_LABELS;
+use trailer::{Form, MOST_LABELS};
 
 // How many labels salvage kept, and how many bytes it dropped.
 #[derive(Clone, Copy, Debug, PartialEq, Eq)]
@@ -20,15 +17,10 @@ pub struct Kept {
 }
 
 // The whole labels that so many bytes have room for, 1,024 at most.
-fn whole_labels(size: usize) -> u32
+fn whole_labels(size: usize) -> usize
     ensures { result ≡ whole_labels size }
 {
-    let whole = size / label::SIZE;
-    if (MOST as usize) < whole {
-        MOST
-    } else {
-        whole as u32
-    }
+    (size / label::SIZE).min(MOST_LABELS as usize)
 }
 
 // Keeps the labels at the start of some bytes, up to the first that breaks a field rule, and writes them
@@ -37,16 +29,15 @@ pub fn keep_labels(body: &[u8], output: &mut [u8]) -> Result<Kept, Refusal>
     ensures { Salvaged body.now output.old output.new result }
 {
     let whole = whole_labels(body.len());
-    let counts = label_file::count_labels(body, whole as usize);
-    let kept = counts.labels;
-    if output.len() < trailer::distance_back(Form::Bytes24, kept) {
+    let counts = label_file::count_labels(body, whole);
+    if output.len() < trailer::distance_back(Form::Bytes24, counts.labels) {
         return Err(Refusal::OutputLength);
     }
-    let size = label::SIZE * (kept as usize);
-    output[0..size].copy_from_slice(&body[0..size]);
+    let size = label::SIZE * (counts.labels as usize);
+    output[..size].copy_from_slice(&body[..size]);
     trailer::write_trailer(counts, output, size);
     Ok(Kept {
-        labels: kept,
+        labels: counts.labels,
         dropped: body.len() - size,
     })
 }

@@ -1,5 +1,5 @@
 -- `label_file::tail::read_tail` meets its contract. Assumes nothing.
-use mathlib.Core.Path.{◌≡◌, refl, ◌∙◌, sym, ap}
+use mathlib.Core.Path.{◌≡◌, ◌∙◌, sym, ap}
 use Rattle.trailer.specs.declared.Form.{Form}
 use Prim.Native.Nat.{ℕ}
 use mathlib.Core.List.{List}
@@ -14,7 +14,6 @@ use native.Mathlib.Omega.{arith}
 use Rattle.refusal.specs.declared.Refusal.TheVariants.{Trailer}
 use Rattle.std.specs.Prelude.{Option, Result, Some, None, Ok, Err}
 use Rattle.std.proofs.lemmas.Result.{err_from_is_err_and}
-use Rattle.trailer.specs.Counts.{contents_of}
 use Rattle.trailer.specs.declared.Contents.{Contents}
 
 pub returns-then-tail-tail_size : goal.returns-then-tail-tail_size
