@@ -2,7 +2,7 @@
 // build says no".
 #![tactic(auto)]
 
-ghost use Rattle.std.specs.Prelude.{◌≡◌};
+ghost use Rattle.std.specs.Prelude.{◌≡◌, Ok, Err, IfOk, IfErr};
 ghost use Rattle.elements.specs.Elements.{refuse_if, outside, perigee_below, rate_beyond, derivative_beyond, checked};
 ghost use Rattle.elements.specs.Time.{times_refused, time_refused, checked_at};
 
@@ -26,6 +26,14 @@ pub struct Elements {
     pub epoch_revolution: u32,
     pub epoch: i64,
     pub half_mean_motion_derivative: i32,
+}
+
+// Elements, and a time at which they passed the checks.
+#[derive(Clone, Copy)]
+pub struct ElementsAt {
+    pub elements: Elements,
+    pub time: i64,
+    pub ghost passed: { checked_at elements time ≡ Ok tt },
 }
 
 // A refusal where a test fails.
@@ -131,4 +139,14 @@ pub fn check_at(elements: Elements, time: i64) -> Result<(), Refusal>
 {
     check(elements)?;
     refuse_if(time_refused(elements, time), Refusal::Time)
+}
+
+impl ElementsAt {
+    pub fn of(elements: Elements, time: i64) -> Result<ElementsAt, Refusal>
+        ensures ok { IfOk result (λ at. (at.elements ≡ elements) × (at.time ≡ time)) }
+        ensures refused { IfErr result (λ refusal. checked_at elements time ≡ Err refusal) }
+    {
+        check_at(elements, time)?;
+        Ok(ElementsAt { elements, time })
+    }
 }

@@ -7,10 +7,9 @@ mod turns;
 ghost use Rattle.std.specs.Prelude.{◌≡◌, ◌≤◌};
 ghost use Rattle.trig.specs.Sines.{SinesAt};
 ghost use Rattle.orbit.specs.Placement.{node_at};
-ghost use Rattle.elements.specs.Time.{checked_at};
 ghost use Rattle.orbit.specs.Contract.{PlaneFor, Shape, InPlane, StateAt, PlacedAt};
 
-use elements::Elements;
+use elements::{Elements, ElementsAt};
 use kepler::Anomaly;
 use position::Position;
 use refusal::Refusal;
@@ -48,14 +47,12 @@ impl Plane {
     }
 }
 
-// The node as drifted at a time that passed the checks. Labelling needs its sines twice: for the
-// position and for the Sun's elevation.
+// The node as drifted. Labelling needs its sines twice: for the position and for the Sun's elevation.
 #[tactic(auto, unfolding(crate::specs::Placement::node_at))]
-pub fn node_at(elements: Elements, time: i64) -> Sines
-    requires { checked_at elements time ≡ Ok tt }
-    ensures { SinesAt (node_at elements time) result }
+pub fn node_at(at: ElementsAt) -> Sines
+    ensures { SinesAt (node_at at.elements at.time) result }
 {
-    turns::drift_at(elements, time, elements.node, elements.node_rate)
+    turns::drift_at(at, at.elements.node, at.elements.node_rate)
 }
 
 fn in_plane(a: u32, e: u32, minor_axis: u32, cosine: i64, sine: i64) -> Position
@@ -69,15 +66,14 @@ fn in_plane(a: u32, e: u32, minor_axis: u32, cosine: i64, sine: i64) -> Position
     }
 }
 
-// The state at a time that passed the checks: the plane is computed once for all times, and the node
-// once for the time.
-pub fn state_at(elements: Elements, plane: Plane, node: Sines, time: i64) -> State
-    requires { (checked_at elements time ≡ Ok tt) × PlaneFor elements plane × (node.angle ≡ node_at elements time) }
-    ensures { StateAt elements time result }
+// The state at a time: the plane is computed once for all times, and the node once for the time.
+pub fn state_at(at: ElementsAt, plane: Plane, node: Sines) -> State
+    requires { PlaneFor at.elements plane × (node.angle ≡ node_at at.elements at.time) }
+    ensures { StateAt at.elements at.time result }
 {
-    let a = elements.semi_major_axis;
-    let e = elements.eccentricity;
-    let phase = turns::phase_at(elements, time);
+    let a = at.elements.semi_major_axis;
+    let e = at.elements.eccentricity;
+    let phase = turns::phase_at(at);
     let perigee = Sines::of(phase.argument_of_perigee);
     let anomaly = kepler::eccentric_anomaly(e, phase.mean_anomaly);
     let sines = Sines::of(anomaly.angle);
@@ -97,8 +93,7 @@ pub fn state_at(elements: Elements, plane: Plane, node: Sines, time: i64) -> Sta
 pub fn position(elements: Elements, time: i64) -> Result<State, Refusal>
     ensures { PlacedAt elements time result }
 {
-    elements::check_at(elements, time)?;
+    let at = ElementsAt::of(elements, time)?;
     let plane = Plane::of(elements);
-    let node = node_at(elements, time);
-    Ok(state_at(elements, plane, node, time))
+    Ok(state_at(at, plane, node_at(at)))
 }

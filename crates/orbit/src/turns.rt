@@ -1,20 +1,19 @@
 // Turns since the epoch, the drift of the node and the argument of perigee, and the number of the
-// revolution: document 01, "From elements to position". The functions are called with elements and a
-// time that passed the checks. Within a year's time of the epoch A has less than 9,000 turns and a
-// drift less than 1,000, so that every sum of theirs is below 2^46; rate·Δ·2^18 is below 2^61. Where d is
-// not 0 the time is within 30 days, and d·Δ² below 2^63. All of it fits an i64.
+// revolution: document 01, "From elements to position". The elements and their time passed the checks.
+// Within a year's time of the epoch A has less than 9,000 turns and a drift less than 1,000, so that every
+// sum of theirs is below 2^46; rate·Δ·2^18 is below 2^61. Where d is not 0 the time is within 30 days, and
+// d·Δ² below 2^63. All of it fits an i64.
 ghost use Rattle.std.specs.Prelude.{◌≡◌, ◌+◌, ◌*◌, ◌≤◌, ◌<◌, ◌^◌, pos, ◌+ℤ◌};
 ghost use Rattle.integer.specs.Bound.{Within};
 ghost use Rattle.integer.specs.Contract.{FloorDivided};
 ghost use Rattle.integer.specs.Division.{mod_z};
 ghost use Rattle.trig.specs.Sines.{SinesAt};
-ghost use Rattle.elements.specs.Time.{checked_at};
 ghost use Rattle.orbit.specs.Turns.{elapsed_of, linear_term, quadratic_term, drift, drifted};
 ghost use Rattle.orbit.specs.Revolution.{node_passages};
 ghost use Rattle.elements.specs.Contract.{Near};
 ghost use Rattle.orbit.specs.Contract.{Elapsed, PhaseAt};
 
-use elements::Elements;
+use elements::ElementsAt;
 use integer::FloorQuotient;
 use trig::{Sines, TURN};
 
@@ -27,11 +26,10 @@ pub struct Phase {
     pub revolution: i32,
 }
 
-fn elapsed(elements: Elements, time: i64) -> i64
-    requires { checked_at elements time ≡ Ok tt }
-    ensures { Elapsed elements time result }
+fn elapsed(at: ElementsAt) -> i64
+    ensures { Elapsed at.elements at.time result }
 {
-    time - elements.epoch
+    at.time - at.elements.epoch
 }
 
 // w·2^32 plus the part turn are one quotient: n·Δ, of which 8,640,000,000,000 are a turn, scaled to 2^32 a
@@ -87,11 +85,11 @@ fn revolution(first: u32, mean_anomaly: u32, argument_of_perigee: u32, gained: i
     (first as i64 + turned(latitude, gained).quotient) as i32
 }
 
-pub(crate) fn phase_at(elements: Elements, time: i64) -> Phase
-    requires { checked_at elements time ≡ Ok tt }
-    ensures { PhaseAt elements time result }
+pub(crate) fn phase_at(at: ElementsAt) -> Phase
+    ensures { PhaseAt at.elements at.time result }
 {
-    let elapsed = elapsed(elements, time);
+    let elements = at.elements;
+    let elapsed = elapsed(at);
     let linear = linear_term(elements.mean_motion, elapsed);
     let quadratic = quadratic_term(elements.half_mean_motion_derivative, elapsed);
     let advance = linear + quadratic;
@@ -108,9 +106,9 @@ pub(crate) fn phase_at(elements: Elements, time: i64) -> Phase
 
 // The drifted angle at a time, with its sines.
 #[tactic(auto, unfolding(crate::specs::Turns::drifted))]
-pub(crate) fn drift_at(elements: Elements, time: i64, angle: u32, rate: i32) -> Sines
-    requires { (checked_at elements time ≡ Ok tt) × Within 200_000 rate }
-    ensures { SinesAt (drifted angle rate (elapsed_of elements time)) result }
+pub(crate) fn drift_at(at: ElementsAt, angle: u32, rate: i32) -> Sines
+    requires { Within 200_000 rate }
+    ensures { SinesAt (drifted angle rate (elapsed_of at.elements at.time)) result }
 {
-    Sines::of(wrapped(angle, drift(rate, elapsed(elements, time))))
+    Sines::of(wrapped(angle, drift(rate, elapsed(at))))
 }

@@ -21,29 +21,29 @@ use Rattle.orbit.proofs.Placements.{anomaly_is, state_is, state_at}
 use Rattle.orbit.proofs.state_at.Goals as goal
 use Rattle.orbit.proofs.state_at.Goals.{After-celestial, After-eccentric_anomaly-anomaly, After-of-perigee, After-of-sines, After-phase_at-phase, Start}
 
-elements_accepted : (s : Start) → Accepted s.args.elements
-elements_accepted s = (accepted_at s.args.elements s.args.time s.requires.0).elements
+elements_accepted : (s : Start) → Accepted s.args.at.elements
+elements_accepted s = (accepted_at s.args.at.elements s.args.at.time s.args.at.passed).elements
 
 -- ---- the mean anomaly and the revolution
-phase_at : (c : After-phase_at-phase) → PhaseAt c.args.elements c.args.time c.phase_at-phase.result
-phase_at c = rw (to_z-of_z c.ranges.time) at c.phase_at-phase.ensures
+phase_at : (c : After-phase_at-phase) → PhaseAt c.args.at.elements c.args.at.time c.phase_at-phase.result
+phase_at c = c.phase_at-phase.ensures
 
 revolution_fits : (c : After-phase_at-phase) → SFits w32 c.phase_at-phase.result.revolution
 revolution_fits c = search rules
 
 -- ---- the argument of perigee
-perigee_sines : (c : After-of-perigee) → let a = c.args in SinesAt (perigee_at a.elements a.time) c.of-perigee.result
+perigee_sines : (c : After-of-perigee) → let a = c.args.at in SinesAt (perigee_at a.elements a.time) c.of-perigee.result
 perigee_sines c = rw (phase_at (goal.at.After-of-perigee c).After-phase_at-phase).perigee_is at c.of-perigee.ensures
 
 pub eccentric_anomaly-anomaly-requires : goal.eccentric_anomaly-anomaly-requires
 eccentric_anomaly-anomaly-requires c = (elements_accepted (goal.at.eccentric_anomaly-anomaly-requires c).Start).eccentricity_le
 
-anomaly_at : (c : After-eccentric_anomaly-anomaly) → let a = c.args in c.eccentric_anomaly-anomaly.result ≡ anomaly_of a.elements (mean_anomaly a.elements a.time)
+anomaly_at : (c : After-eccentric_anomaly-anomaly) → let a = c.args.at in c.eccentric_anomaly-anomaly.result ≡ anomaly_of a.elements (mean_anomaly a.elements a.time)
 anomaly_at c =
-    anomaly_is c.args.elements c.args.time _
-    (subst (λ (M : ℕ). AnomalyAt c.args.elements.eccentricity M c.eccentric_anomaly-anomaly.result) (phase_at (goal.at.After-eccentric_anomaly-anomaly c).After-phase_at-phase).anomaly_is c.eccentric_anomaly-anomaly.ensures)
+    anomaly_is c.args.at.elements c.args.at.time _
+    (subst (λ (M : ℕ). AnomalyAt c.args.at.elements.eccentricity M c.eccentric_anomaly-anomaly.result) (phase_at (goal.at.After-eccentric_anomaly-anomaly c).After-phase_at-phase).anomaly_is c.eccentric_anomaly-anomaly.ensures)
 
-sines_at : (c : After-of-sines) → let a = c.args in SinesAt (anomaly_of a.elements (mean_anomaly a.elements a.time)).angle c.of-sines.result
+sines_at : (c : After-of-sines) → let a = c.args.at in SinesAt (anomaly_of a.elements (mean_anomaly a.elements a.time)).angle c.of-sines.result
 sines_at c = subst (λ (r : Anomaly). SinesAt r.angle c.of-sines.result) (anomaly_at (goal.at.After-of-sines c).After-eccentric_anomaly-anomaly) c.of-sines.ensures
 
 -- its cosine and its sine, as the machine holds them
@@ -57,35 +57,35 @@ sine_is {r = r} h = sine_read r ∙ ap S h.angle_is
 pub in_plane-in_plane-requires : goal.in_plane-in_plane-requires
 in_plane-in_plane-requires c =
     let a = elements_accepted (goal.at.in_plane-in_plane-requires c).Start in
-    let m = minor_le c.args.elements.eccentricity in
+    let m = minor_le c.args.at.elements.eccentricity in
     let E = c.of-sines.ensures.sines_of in
-    search (rules, a, m, E, c.requires.1)
+    search (rules, a, m, E, c.requires.0)
 
 pub celestial-requires : goal.celestial-requires
 celestial-requires c =
     let p = c.requires in
-    search (rules, c.in_plane-in_plane.ensures, c.of-perigee.ensures, p.1, p.2)
+    search (rules, c.in_plane-in_plane.ensures, c.of-perigee.ensures, p.0, p.1)
 
 pub radius-requires : goal.radius-requires
 radius-requires c =
     let a = elements_accepted (goal.at.radius-requires c).Start in
     search rules
 
-position_is : (c : After-celestial) → let a = c.args in c.celestial.result ≡ celestial_at a.elements a.time (anomaly_of a.elements (mean_anomaly a.elements a.time)).angle
+position_is : (c : After-celestial) → let a = c.args.at in c.celestial.result ≡ celestial_at a.elements a.time (anomaly_of a.elements (mean_anomaly a.elements a.time)).angle
 unfolding celestial_at in_plane
 position_is c =
     let p = c.requires in
     let E = sines_at (goal.at.After-celestial c).After-of-sines in
     simp
-    (c.in_plane-in_plane.ensures.is, p.1.minor_is, cosine_is E, sine_is E, (perigee_sines (goal.at.After-celestial c).After-of-perigee).angle_is, p.1.inclination_at.angle_is, p.2)
+    (c.in_plane-in_plane.ensures.is, p.0.minor_is, cosine_is E, sine_is E, (perigee_sines (goal.at.After-celestial c).After-of-perigee).angle_is, p.0.inclination_at.angle_is, p.1)
     at c.celestial.ensures.is
 
 pub returns : goal.returns
 returns c =
-    let el = c.args.elements in
-    let t = c.args.time in
+    let el = c.args.at.elements in
+    let t = c.args.at.time in
     let phase = phase_at (goal.at.returns c).After-phase_at-phase in
     let ρ = c.radius in
-    state_at el t c.requires.0
+    state_at el t c.args.at.passed
     (state_is el t (anomaly_at (goal.at.returns c).After-eccentric_anomaly-anomaly) (to_z-of_z (revolution_fits (goal.at.returns c).After-phase_at-phase) ∙ phase.revolution_is) phase.anomaly_is
-    (position_is (goal.at.returns c).After-celestial) (read_back ρ.result ρ.type_inv ∙ rw (cosine_is (sines_at (goal.at.returns c).After-of-sines)) at ρ.ensures) c.requires.2)
+    (position_is (goal.at.returns c).After-celestial) (read_back ρ.result ρ.type_inv ∙ rw (cosine_is (sines_at (goal.at.returns c).After-of-sines)) at ρ.ensures) c.requires.1)
