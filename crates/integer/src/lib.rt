@@ -2,8 +2,8 @@
 // square root.
 #![tactic(auto)]
 
-ghost use Rattle.std.specs.Prelude.{◌≡◌, ◌<◌, ◌^◌, pos, negsuc, nat_abs, ◌*ℤ◌};
-ghost use Rattle.std.specs.Int.Signed.{mag, quot_z};
+ghost use Rattle.std.specs.Prelude.{◌≡◌, ◌<◌, ◌^◌, pos, nat_abs, ◌*ℤ◌};
+ghost use Rattle.std.specs.Int.Signed.{quot_z};
 ghost use Rattle.std.specs.Int.{w32, w64};
 ghost use Rattle.std.proofs.Common.{of_z, to_z};
 ghost use Rattle.integer.specs.Bound.{Within};

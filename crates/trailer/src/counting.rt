@@ -1,8 +1,5 @@
 // The counts of labels.
-ghost use Rattle.std.specs.Prelude.{◌≡◌, ◌≤◌, ◌&&◌, eqb};
-ghost use Rattle.shade.specs.Codes.{shade_code};
-ghost use Rattle.shade.specs.declared.Shade.TheVariants.{Dark};
-ghost use Rattle.sequence.specs.Sequence.{bit};
+ghost use Rattle.std.specs.Prelude.{◌≡◌};
 ghost use Rattle.trailer.specs.Counts.{no_counts, counted, same_counts};
 ghost use Rattle.trailer.specs.Trailer.{stating};
 ghost use Rattle.trailer.specs.Contract.{Countable};
