@@ -15,32 +15,14 @@ const EXAMPLE: i64 = -138_406_500;
 
 // A number of ten-thousandths, written with its sign and its point.
 #[derive(Clone, Copy)]
-struct TenThousandths {
-    negative: bool,
-    size: u64,
-}
-
-impl TenThousandths {
-    fn unsigned(size: u64) -> TenThousandths {
-        TenThousandths {
-            negative: false,
-            size,
-        }
-    }
-
-    fn signed(n: i64) -> TenThousandths {
-        TenThousandths {
-            negative: n < 0,
-            size: integer::magnitude(n),
-        }
-    }
-}
+struct TenThousandths(i64);
 
 impl fmt::Display for TenThousandths {
     fn fmt<W: fmt::Write>(&self, f: &mut fmt::Formatter<W>) -> fmt::Result {
-        let sign = if self.negative { "-" } else { "" };
-        let whole = self.size / 10_000;
-        let places = self.size % 10_000;
+        let sign = if self.0 < 0 { "-" } else { "" };
+        let size = integer::magnitude(self.0);
+        let whole = size / 10_000;
+        let places = size % 10_000;
         write!(f, "{sign}{whole}.{places:04}")
     }
 }
@@ -57,19 +39,17 @@ fn apart(a: u64, b: u64) -> u64 {
 // met within two.
 fn angle(rt: &impl Print, name: &str, found: u32, article: u32) -> io::Result<()> {
     let exact = found as u64 * 3_600_000;
-    let shown = TenThousandths::unsigned((exact + HALF_TURN) / TURN);
-    let expected = TenThousandths::unsigned(article as u64);
+    let shown = TenThousandths(((exact + HALF_TURN) / TURN) as i64);
+    let expected = TenThousandths(i64::from(article));
     let verdict = verdict(apart(exact, article as u64 * TURN) <= 2 * TURN);
     println!(rt; "{name} {shown} article {expected} {verdict}")
 }
 
 // A sine beside the article's, to the nearest ten-thousandth; a sine is within 2^30.
 fn component(rt: &impl Print, name: &str, found: i64, article: i64) -> io::Result<()> {
-    let shown = TenThousandths {
-        negative: found < 0,
-        size: (integer::magnitude(found) % TURN * 10_000 + ONE / 2) / ONE,
-    };
-    let expected = TenThousandths::signed(article);
+    let scaled = found % TURN as i64 * 10_000;
+    let shown = TenThousandths(integer::floor_div(scaled + ONE as i64 / 2, ONE).quotient);
+    let expected = TenThousandths(article);
     println!(rt; "{name} {shown} article {expected}")
 }
 
@@ -90,8 +70,7 @@ fn of_state(rt: &impl Print, state: State, sun: Direction) -> io::Result<()> {
     let metres = integer::magnitude(state.radius);
     let verdict = verdict(apart(metres, 39_582_000) <= 10_000);
     println!(rt; "radius {metres} article 39582000 {verdict}")?;
-    let shade = eclipse::shade_test(state.position, sun);
-    match shade {
+    match eclipse::shade_test(state.position, sun) {
         Err(_) => refused(rt),
         Ok(Shade::Lit) => println!(rt; "lit"),
         Ok(Shade::Dark) => println!(rt; "dark"),
@@ -103,30 +82,19 @@ fn refused(rt: &impl Print) -> io::Result<()> {
     println!(rt; "refused")
 }
 
-fn wide(x: i32) -> i64 {
-    x as i64
-}
-
-fn of_elevation(rt: &impl Print, inclination: u32, node: u32, sun: Sun) -> io::Result<()>
-    requires { WithinOne sun.direction }
-{
-    let direction = sun.direction;
-    let sine = eclipse::elevation(Sines::of(inclination), Sines::of(node), direction);
-    component(rt, "elevation sine", wide(sine), 874)
-}
-
 fn example(rt: &impl Print, sun: Sun) -> io::Result<()>
     requires { WithinOne sun.direction }
 {
     of_sun(rt, sun)?;
     let inclination = trig::angle(256_000);
     let node = trig::angle(1_212_000);
-    of_elevation(rt, inclination, node, sun)?;
+    let sine = eclipse::elevation(Sines::of(inclination), Sines::of(node), sun.direction);
+    component(rt, "elevation sine", i64::from(sine), 874)?;
     let elements = Elements {
         eccentricity: 6_100_000,
         semi_major_axis: 26_100_000,
-        inclination: inclination,
-        node: node,
+        inclination,
+        node,
         argument_of_perigee: trig::angle(401_000),
         mean_anomaly: trig::angle(1_293_000),
         mean_motion: 205_890_000,
@@ -136,17 +104,14 @@ fn example(rt: &impl Print, sun: Sun) -> io::Result<()>
         epoch: EXAMPLE,
         half_mean_motion_derivative: 0,
     };
-    let direction = sun.direction;
-    let placement = orbit::position(elements, EXAMPLE);
-    match placement {
+    match orbit::position(elements, EXAMPLE) {
         Err(_) => refused(rt),
-        Ok(state) => of_state(rt, state, direction),
+        Ok(state) => of_state(rt, state, sun.direction),
     }
 }
 
 fn main(rt: HostRuntime) -> io::Result<()> {
-    let answer = sun::find(EXAMPLE);
-    match answer {
+    match sun::find(EXAMPLE) {
         Err(_) => refused(&rt),
         Ok(sun) => example(&rt, sun),
     }

@@ -12,7 +12,6 @@ use Rattle.trig.specs.Sine.{S, C}
 use Rattle.trig.specs.declared.Sines.{Sines}
 use Rattle.kepler.specs.Contract.{AnomalyAt}
 use Rattle.kepler.specs.declared.Anomaly.{Anomaly}
-use Rattle.orbit.specs.Contract.{PhaseAt}
 use Rattle.orbit.specs.Placement.{in_plane, perigee_at, celestial_at, anomaly_of}
 use Rattle.orbit.specs.Turns.{mean_anomaly}
 use Rattle.elements.proofs.Accepted.{Accepted, accepted_at}
@@ -25,15 +24,12 @@ elements_accepted : (s : Start) → Accepted s.args.at.elements
 elements_accepted s = (accepted_at s.args.at.elements s.args.at.time s.args.at.passed).elements
 
 -- ---- the mean anomaly and the revolution
-phase_at : (c : After-phase_at-phase) → PhaseAt c.args.at.elements c.args.at.time c.phase_at-phase.result
-phase_at c = c.phase_at-phase.ensures
-
 revolution_fits : (c : After-phase_at-phase) → SFits w32 c.phase_at-phase.result.revolution
 revolution_fits c = search rules
 
 -- ---- the argument of perigee
 perigee_sines : (c : After-of-perigee) → let a = c.args.at in SinesAt (perigee_at a.elements a.time) c.of-perigee.result
-perigee_sines c = rw (phase_at (goal.at.After-of-perigee c).After-phase_at-phase).perigee_is at c.of-perigee.ensures
+perigee_sines c = rw c.phase_at-phase.ensures.perigee_is at c.of-perigee.ensures
 
 pub eccentric_anomaly-anomaly-requires : goal.eccentric_anomaly-anomaly-requires
 eccentric_anomaly-anomaly-requires c = (elements_accepted (goal.at.eccentric_anomaly-anomaly-requires c).Start).eccentricity_le
@@ -41,7 +37,7 @@ eccentric_anomaly-anomaly-requires c = (elements_accepted (goal.at.eccentric_ano
 anomaly_at : (c : After-eccentric_anomaly-anomaly) → let a = c.args.at in c.eccentric_anomaly-anomaly.result ≡ anomaly_of a.elements (mean_anomaly a.elements a.time)
 anomaly_at c =
     anomaly_is c.args.at.elements c.args.at.time _
-    (subst (λ (M : ℕ). AnomalyAt c.args.at.elements.eccentricity M c.eccentric_anomaly-anomaly.result) (phase_at (goal.at.After-eccentric_anomaly-anomaly c).After-phase_at-phase).anomaly_is c.eccentric_anomaly-anomaly.ensures)
+    (subst (λ (M : ℕ). AnomalyAt c.args.at.elements.eccentricity M c.eccentric_anomaly-anomaly.result) c.phase_at-phase.ensures.anomaly_is c.eccentric_anomaly-anomaly.ensures)
 
 sines_at : (c : After-of-sines) → let a = c.args.at in SinesAt (anomaly_of a.elements (mean_anomaly a.elements a.time)).angle c.of-sines.result
 sines_at c = subst (λ (r : Anomaly). SinesAt r.angle c.of-sines.result) (anomaly_at (goal.at.After-of-sines c).After-eccentric_anomaly-anomaly) c.of-sines.ensures
@@ -84,7 +80,7 @@ pub returns : goal.returns
 returns c =
     let el = c.args.at.elements in
     let t = c.args.at.time in
-    let phase = phase_at (goal.at.returns c).After-phase_at-phase in
+    let phase = c.phase_at-phase.ensures in
     let ρ = c.radius in
     state_at el t c.args.at.passed
     (state_is el t (anomaly_at (goal.at.returns c).After-eccentric_anomaly-anomaly) (to_z-of_z (revolution_fits (goal.at.returns c).After-phase_at-phase) ∙ phase.revolution_is) phase.anomaly_is
