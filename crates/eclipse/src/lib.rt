@@ -26,7 +26,7 @@ const RADII_APART: i64 = 689_622_000;
 
 const RADII_TOGETHER: i64 = 702_378_000;
 
-// The scalar product with a direction.
+// The scalar product with a direction. By components, as `any_beyond` is, since they are a position's or a direction's.
 fn dot(x: i64, y: i64, z: i64, direction: Direction) -> i64
     requires { Within (2 ^ 30) x × Within (2 ^ 30) y × Within (2 ^ 30) z × WithinOne direction }
     ensures { result ≡ dot_of x y z direction }

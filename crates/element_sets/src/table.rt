@@ -82,6 +82,7 @@ fn scan_rows(table: &[u8], time: i64) -> Option<Split>
     Some(Split { earlier, up_to })
 }
 
+// A buffer and a size, as the C interface has them.
 #[tactic(auto, using(crate::proofs::Scans::scan_beyond, crate::proofs::Scans::scan_ragged, crate::proofs::Scans::scan_part))]
 pub(crate) fn scan_table(buffer: &[u8], size: usize, time: i64) -> Option<Split>
     ensures { result ≡ scanned buffer.now size time }

@@ -44,6 +44,8 @@ pub struct Malformed {
 
 // How far a file has been read: the line from 1, how many elements have been read, what the line holds so
 // far, and the elements.
+// Elements have numbers, and no enum: every definition of specs/ counts them from 0 in the order of the file, and C gets
+// the number.
 #[derive(Clone, Copy)]
 struct Progress {
     line: usize,

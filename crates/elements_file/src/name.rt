@@ -4,6 +4,7 @@ ghost use Rattle.elements_file.specs.Contract.{NameAt};
 ghost use Rattle.elements_file.specs.Names.{name_byte};
 
 // A row of 28 bytes for each element, in the order of the file.
+// One array: behind a name `name_byte` reads on into the next row.
 const NAMES: [u8; 336] = *b"\
     eccentricity                \
     semi_major_axis             \

@@ -5,6 +5,7 @@ ghost use Rattle.elements_file.specs.Numbers.{is_rate, magnitude_of, takes_minus
 // A minus or none, and the digits' number, once a digit stands.
 #[derive(Clone, Copy)]
 pub struct Number {
+    // No part of the magnitude: a minus may stand where no digit does.
     pub negative: bool,
     pub magnitude: Option<u64>,
 }

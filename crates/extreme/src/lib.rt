@@ -5,6 +5,7 @@ ghost use Rattle.std.specs.Prelude.{◌≡◌};
 ghost use Rattle.extreme.specs.Extremes.{ahead, keep, is_of};
 
 // Which extreme: lesser numbers go ahead, or greater ones.
+// A kind, and no closure: `keep` and the laws of the order speak of both.
 #[derive(Clone, Copy)]
 pub enum Kind {
     Least,

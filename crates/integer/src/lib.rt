@@ -57,6 +57,8 @@ pub fn floor_scaled(x: i64, scale: u64, d: u64) -> i64
     whole.quotient * (scale as i64) + part as i64
 }
 
+// The library's casts, one for each width and way: a function for all would need a trait with the same four bodies.
+
 // The bits of x in two's complement.
 pub fn bits_of_i64(x: i64) -> u64
     ensures { result ≡ of_z w64 x }

@@ -24,6 +24,7 @@ pub const TEST: u8 = 2;
 pub struct Label {
     pub time: i64,
     pub revolution: i32,
+    // Numbers, and no enums: `of_part` makes a label of any bytes, as `label_of` says.
     pub side: u8,
     pub shade: u8,
     pub reading: Reading,

@@ -68,6 +68,7 @@ fn print_label(rt: &impl Print, label: Label) -> io::Result<()> {
     println!(rt; "{time} {revolution} {side} {shade} {code} {elevation} {watts:08x}")
 }
 
+// Lines of this program alone, each printed at one place.
 fn print_counts(rt: &impl Print, counts: Counts) -> io::Result<()> {
     println!(rt;
         "labels {} training {} test {}",

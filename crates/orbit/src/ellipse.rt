@@ -23,6 +23,7 @@ pub(crate) fn minor_axis(e: u32) -> u32
     integer::square_root(0x1000_0000_0000_0000 - k * k) as u32
 }
 
+// The axis, the eccentricity and the cosine are locals of one caller, `state_at`, and of no other.
 #[tactic(auto, unfolding(crate::specs::Ellipse::in_plane_x))]
 pub(crate) fn plane_x(a: u32, e: u32, cosine: i64) -> i64
     requires { (a ≤ 100_000_000) × ((e ≤ 9_000_000) × Within (2 ^ 30) cosine) }

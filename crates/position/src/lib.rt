@@ -32,6 +32,9 @@ fn turned(first: i64, second: i64, angle: Sines) -> (i64, i64)
 
 // An angle comes with its sine and cosine, which several turns share.
 impl Position {
+    // Two turns of two lines: one for both would take its axes as numbers. Their bounds are asked, and are no invariant,
+    // since the shade test takes any position.
+
     // The turn of (x, y) by an angle.
     fn turn_xy(self, angle: Sines) -> Position
         requires { Turnable self }

@@ -37,6 +37,7 @@ impl Refusal {
     pub fn number(self) -> u32
         ensures { result ≡ number_of self }
     {
+        // No discriminants, which could not be wrong as `number_twice` is.
         match self {
             Refusal::Eccentricity => 1,
             Refusal::SemiMajorAxis => 2,

@@ -18,6 +18,7 @@ impl Shade {
     pub fn code(self) -> u8
         ensures { result ≡ shade_code self }
     {
+        // No discriminants, which could not be wrong as `one_code_for_two` is.
         match self {
             Shade::Lit => 0,
             Shade::Dark => 1,

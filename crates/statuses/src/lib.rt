@@ -8,6 +8,7 @@ ghost use Rattle.statuses.specs.Faults.{fault_number, fault_place};
 
 use elements_file::Fault;
 
+// The numbers are the C interface's, and no conversion of the faults themselves.
 pub fn fault_number(fault: Fault) -> u32
     ensures { result ≡ fault_number fault }
 {

@@ -33,6 +33,7 @@ const OBLIQUITY_COSINE: i64 = 985_129_105;
 const OBLIQUITY_SINE: i64 = 427_132_473;
 
 // A direction in the celestial frame, in units of 2^-30.
+// A type beside `Position`, which has metres.
 #[derive(Clone, Copy)]
 pub struct Direction {
     pub x: i64,

@@ -9,6 +9,7 @@ use label::{Label, TEST, TRAINING};
 use shade::Shade;
 
 impl Counts {
+    // Written out, and no `Default`: `counted_from_one` starts from it.
     #[tactic(auto, unfolding(crate::specs::Counts::no_counts))]
     pub fn none() -> Counts
         ensures { result ≡ no_counts }

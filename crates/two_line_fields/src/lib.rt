@@ -31,6 +31,7 @@ pub enum Form {
 }
 
 // The columns of a form, from the left.
+// Each flag says what stands in a column, and has no value beside it.
 #[derive(Clone, Copy)]
 pub struct Layout {
     pub sign: bool,

@@ -1,5 +1,5 @@
-// The calls of the C interface, as include/yurdelmiz.h documents them: numbers and byte slices only. The
-// crate yurdelmiz_c exports them.
+// The calls of the C interface, as include/yurdelmiz.h documents them: numbers and byte slices only, with a
+// refusal's number as the status. The crate yurdelmiz_c exports them.
 #![tactic(auto)]
 
 ghost use Rattle.std.specs.Prelude.{◌≡◌};

@@ -1,5 +1,5 @@
 // The C interface, as include/yurdelmiz.h documents it: each function calls the one of the same name in
-// the crate yurdelmiz, and its contract is the same.
+// the crate yurdelmiz, and its contract is the same. Crates can stand on that one, and not on an archive for C.
 #![tactic(auto)]
 
 ghost use Rattle.std.specs.Prelude.{◌≡◌};
