@@ -31,17 +31,13 @@ fn verdict(near: bool) -> &'static str {
     if near { "within" } else { "BEYOND" }
 }
 
-fn apart(a: u64, b: u64) -> u64 {
-    if a < b { b - a } else { a - b }
-}
-
 // An angle in degrees beside the article's, both in ten-thousandths of a degree. The article's is to be
 // met within two.
 fn angle(rt: &impl Print, name: &str, found: u32, article: u32) -> io::Result<()> {
-    let exact = found as u64 * 3_600_000;
+    let exact = u64::from(found) * 3_600_000;
     let shown = TenThousandths(((exact + HALF_TURN) / TURN) as i64);
     let expected = TenThousandths(i64::from(article));
-    let verdict = verdict(apart(exact, article as u64 * TURN) <= 2 * TURN);
+    let verdict = verdict(exact.abs_diff(u64::from(article) * TURN) <= 2 * TURN);
     println!(rt; "{name} {shown} article {expected} {verdict}")
 }
 
@@ -68,7 +64,7 @@ fn of_sun(rt: &impl Print, sun: Sun) -> io::Result<()> {
 fn of_state(rt: &impl Print, state: State, sun: Direction) -> io::Result<()> {
     println!(rt; "Part 3, Oscar-10")?;
     let metres = integer::magnitude(state.radius);
-    let verdict = verdict(apart(metres, 39_582_000) <= 10_000);
+    let verdict = verdict(metres.abs_diff(39_582_000) <= 10_000);
     println!(rt; "radius {metres} article 39582000 {verdict}")?;
     match eclipse::shade_test(state.position, sun) {
         Err(_) => refused(rt),

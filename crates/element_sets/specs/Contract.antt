@@ -1,4 +1,4 @@
--- What putting asks of the rows that a table was found to have. Assumes nothing.
+-- What holds of the rows that a table was found to have, and the room that putting asks for. Assumes nothing.
 use Rattle.std.specs.Prelude.{ℕ, ◌+◌, ◌*◌, ◌≤◌}
 use Rattle.element_sets.specs.Table.{row_size}
 use Rattle.element_sets.specs.Putting.{end_with}

@@ -33,8 +33,8 @@ fn make_room(window: &mut [u8], end: usize) -> usize
 // Reads the input up to its end. Of an input that does not fit the window the last bytes are kept, at
 // least as many as the longest file has, and not the input's length: no answer needs more, by the laws
 // `tail_suffices` and `body_ahead` of label_file. A read that fails is told from the end: a file whose end
-// could not be read must not be listed. A proved loop has to end, so it counts its turns down, from a number
-// that no run uses up.
+// could not be read must not be listed. A proved loop has to end, so its turns have a number that no run uses
+// up.
 #[tactic(auto, unfolding(label_file::specs::File::longest, trailer::specs::Trailer::trailer_size))]
 fn read_input<R: Read>(input: &mut R, window: &mut [u8]) -> Option<usize>
     requires { length window.old ≡ 2 * longest }

@@ -8,7 +8,7 @@ use crate::Form;
 pub struct Field {
     pub column: u32,
     pub form: Form,
-    ghost on_line: { T (leb 1 column && leb column 69) },
+    pub ghost on_line: { T (leb 1 column && leb column 69) },
 }
 
 // On either line.

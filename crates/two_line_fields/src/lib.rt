@@ -97,8 +97,8 @@ fn layout_of(form: Form) -> Layout
     }
 }
 
-// The byte of a column, counted from 1. Callers here and below have numerals of the layout for columns, so that
-// what their `requires` ask of a column is no question.
+// The byte of a column, counted from 1. Its callers have a numeral of the layout or a field's column, which is on the
+// line.
 pub fn byte(line: &[u8], column: u32) -> u8
     requires { 1 ≤ column }
     ensures { result ≡ byte_of line.now column }
