@@ -1,21 +1,12 @@
--- An addition as the outcome of a call. Assumes nothing.
-use mathlib.Core.Path.{◌≡◌, sym, ap, ◌∙◌}
+-- A refused addition leaves the buffer. Assumes nothing.
+use mathlib.Core.Path.{◌≡◌, sym}
 use Prim.Native.Nat.{ℕ}
 use mathlib.Core.List.{List}
-use Rattle.refusal.specs.declared.Refusal.{Refusal}
 use Rattle.elements.specs.declared.Elements.{Elements}
 use Rattle.labelling.specs.Adding.{adding, buffer_after}
-use Rattle.labelling.specs.Contract.{AddedTo}
 use Rattle.labelling.proofs.AddedFile.{adding_refused}
-use Rattle.yurdelmiz.specs.Calls.{add_outcome}
-use Rattle.labelling.specs.declared.Labelled.{Labelled}
-use Rattle.refusal.specs.Refused.{refused_at}
 use Rattle.refusal.specs.declared.RefusedAt.{RefusedAt}
-use Rattle.std.specs.Prelude.{Err, Result}
+use Rattle.std.specs.Prelude.{Err}
 
-module _ {el : Elements} {buffer : List ℕ} {size : ℕ} {telemetry after : List ℕ} {r : Result Labelled RefusedAt} (added : AddedTo el buffer size telemetry after r) where
-  pub add_outcome_lem : {x : Result Labelled RefusedAt} → r ≡ x → add_outcome (adding el buffer size telemetry) (buffer_after el buffer size telemetry) ≡ add_outcome x (buffer_after el buffer size telemetry)
-  add_outcome_lem e = ap (λ (x : Result Labelled RefusedAt). add_outcome x (buffer_after el buffer size telemetry)) (sym added.answer_is ∙ e)
-
-  pub unchanged : {refusal : Refusal} {place : ℕ} → r ≡ Err (refused_at refusal place) → after ≡ buffer
-  unchanged e = added.buffer_is ∙ sym (adding_refused el buffer size telemetry (sym added.answer_is ∙ e)).buffer_is
+pub kept : (el : Elements) (buffer : List ℕ) (size : ℕ) (telemetry : List ℕ) (error : RefusedAt) → adding el buffer size telemetry ≡ Err error → buffer_after el buffer size telemetry ≡ buffer
+kept el buffer size telemetry error e = sym (adding_refused el buffer size telemetry e).buffer_is

@@ -1,10 +1,9 @@
 pub mod Placed
-pub mod Days
 pub mod Additions
-pub mod Salvages
-pub mod DaySteps
 pub mod AcceptedCalls
 pub mod TailCalls
 pub mod CutDays
 pub mod ManyFiles
 pub mod PutSets
+pub mod Figures
+pub mod Filled

@@ -34,14 +34,14 @@ pub fn yurdelmiz_cosine(angle: u32) -> i64
     trig::cosine(angle)
 }
 
+#[tactic(auto, unfolding(crate::specs::Calls::kepler_call, statuses::specs::Call::call_of))]
 pub fn yurdelmiz_kepler(eccentricity: u32, mean_anomaly: u32, answer: &mut [u8]) -> u32
     ensures { record { status = result; answer = answer.new } ≡ kepler_call eccentricity mean_anomaly answer.old }
 {
     if answer.len() != 8 {
         return BAD_BUFFER;
     }
-    let solution = kepler::solve(eccentricity, mean_anomaly);
-    match solution {
+    match kepler::solve(eccentricity, mean_anomaly) {
         Err(refusal) => refusal.number(),
         Ok(anomaly) => {
             buffers::write_anomaly(answer, anomaly);
@@ -50,14 +50,14 @@ pub fn yurdelmiz_kepler(eccentricity: u32, mean_anomaly: u32, answer: &mut [u8])
     }
 }
 
+#[tactic(auto, unfolding(crate::specs::Calls::sun_call, statuses::specs::Call::call_of))]
 pub fn yurdelmiz_sun(time: i64, answer: &mut [u8]) -> u32
     ensures { record { status = result; answer = answer.new } ≡ sun_call time answer.old }
 {
     if answer.len() != 28 {
         return BAD_BUFFER;
     }
-    let found = sun::find(time);
-    match found {
+    match sun::find(time) {
         Err(refusal) => refusal.number(),
         Ok(sun) => {
             buffers::write_sun(answer, sun);
@@ -66,6 +66,7 @@ pub fn yurdelmiz_sun(time: i64, answer: &mut [u8]) -> u32
     }
 }
 
+#[tactic(auto, using(crate::proofs::Placed::time_in_range, crate::proofs::Placed::radius_small), unfolding(crate::specs::Calls::position_call, statuses::specs::Call::call_of, crate::specs::Calls::earth_fixed_at))]
 pub fn yurdelmiz_position(elements: &[u8], time: i64, answer: &mut [u8]) -> u32
     ensures { record { status = result; answer = answer.new } ≡ position_call elements.now time answer.old }
 {
@@ -75,8 +76,7 @@ pub fn yurdelmiz_position(elements: &[u8], time: i64, answer: &mut [u8]) -> u32
     if answer.len() != 68 {
         return BAD_BUFFER;
     }
-    let placement = orbit::position(elements_buffer::read_elements(elements), time);
-    match placement {
+    match orbit::position(elements_buffer::read_elements(elements), time) {
         Err(refusal) => refusal.number(),
         Ok(state) => {
             let sun = sun::sun_at(time);
@@ -88,6 +88,7 @@ pub fn yurdelmiz_position(elements: &[u8], time: i64, answer: &mut [u8]) -> u32
     }
 }
 
+#[tactic(auto, unfolding(crate::specs::Calls::shade_call, statuses::specs::Call::call_of))]
 pub fn yurdelmiz_shade(
     x: i64,
     y: i64,
@@ -108,8 +109,7 @@ pub fn yurdelmiz_shade(
         y: sun_y,
         z: sun_z,
     };
-    let shaded = eclipse::shade_test(position, sun);
-    match shaded {
+    match eclipse::shade_test(position, sun) {
         Err(refusal) => refusal.number(),
         Ok(shade) => {
             answer[0] = shade.code();
@@ -118,14 +118,14 @@ pub fn yurdelmiz_shade(
     }
 }
 
+#[tactic(auto, using(crate::proofs::Filled::elements_fill, elements_file::proofs::Consistency::parsed_in_bounds), unfolding(crate::specs::Calls::elements_call, statuses::specs::Call::call_of))]
 pub fn yurdelmiz_elements(text: &[u8], answer: &mut [u8]) -> u64
     ensures { record { status = result; answer = answer.new } ≡ elements_call text.now answer.old }
 {
     if answer.len() != 52 {
         return BAD_BUFFER as u64;
     }
-    let parsed = elements_file::parse(text);
-    match parsed {
+    match elements_file::parse(text) {
         Err(malformed) => {
             let number = statuses::fault_number(malformed.fault);
             let place = statuses::fault_place(malformed.line, malformed.element);
@@ -138,6 +138,7 @@ pub fn yurdelmiz_elements(text: &[u8], answer: &mut [u8]) -> u64
     }
 }
 
+#[tactic(auto, using(crate::proofs::Filled::elements_fill), unfolding(crate::specs::Calls::two_line_call, statuses::specs::Call::call_of))]
 pub fn yurdelmiz_two_line(
     first: &[u8],
     second: &[u8],
@@ -161,6 +162,7 @@ pub fn yurdelmiz_two_line(
     }
 }
 
+#[tactic(auto, using(element_sets::proofs::Finds::past_row, element_sets::proofs::Finds::forecast_row), unfolding(crate::specs::Calls::find_set_call, statuses::specs::Call::call_of))]
 pub fn yurdelmiz_find_set(
     past: &[u8],
     past_size: usize,
@@ -174,8 +176,7 @@ pub fn yurdelmiz_find_set(
     if answer.len() != 12 {
         return BAD_BUFFER;
     }
-    let found = element_sets::locate(past, past_size, forecast, forecast_size, time);
-    match found {
+    match element_sets::locate(past, past_size, forecast, forecast_size, time) {
         Err(refusal) => refusal.number(),
         Ok(row) => {
             match row {
@@ -187,6 +188,7 @@ pub fn yurdelmiz_find_set(
     }
 }
 
+#[tactic(auto, unfolding(crate::specs::Calls::put_set_call, statuses::specs::Call::buffer_call_of))]
 pub fn yurdelmiz_put_set(elements: &[u8], buffer: &mut [u8], size: usize, answer: &mut [u8]) -> u32
     ensures { record { status = result; buffer = buffer.new; answer = answer.new } ≡ put_set_call elements.now buffer.old size answer.old }
 {
@@ -197,8 +199,7 @@ pub fn yurdelmiz_put_set(elements: &[u8], buffer: &mut [u8], size: usize, answer
     if room != 8 {
         return BAD_BUFFER;
     }
-    let put = element_sets::put(elements_buffer::read_elements(elements), buffer, size);
-    match put {
+    match element_sets::put(elements_buffer::read_elements(elements), buffer, size) {
         Err(refusal) => refusal.number(),
         Ok(end) => {
             buffers::write_size(answer, end);
@@ -207,23 +208,20 @@ pub fn yurdelmiz_put_set(elements: &[u8], buffer: &mut [u8], size: usize, answer
     }
 }
 
+#[tactic(auto, unfolding(crate::specs::Calls::label_call, statuses::specs::Call::call_of, crate::specs::Calls::day_outcome, labelling::specs::Day::output_after))]
 pub fn yurdelmiz_label(elements: &[u8], telemetry: &[u8], output: &mut [u8]) -> u64
     ensures { record { status = result; answer = output.new } ≡ label_call elements.now telemetry.now output.old }
 {
     if elements.len() != 52 {
         return BAD_BUFFER as u64;
     }
-    let labelled = labelling::label_day(
-        elements_buffer::read_elements(elements),
-        telemetry,
-        output,
-    );
-    match labelled {
+    match labelling::label_day(elements_buffer::read_elements(elements), telemetry, output) {
         Err(refused) => statuses::status_at(refused.refusal.number(), refused.place),
         Ok(_) => 0,
     }
 }
 
+#[tactic(auto, using(crate::proofs::Additions::kept), unfolding(crate::specs::Calls::add_call, statuses::specs::Call::buffer_call_of))]
 pub fn yurdelmiz_add(
     elements: &[u8],
     buffer: &mut [u8],
@@ -239,13 +237,12 @@ pub fn yurdelmiz_add(
     if answer.len() != 28 {
         return BAD_BUFFER as u64;
     }
-    let added = labelling::add(
+    match labelling::add(
         elements_buffer::read_elements(elements),
         buffer,
         size,
         telemetry,
-    );
-    match added {
+    ) {
         Err(refused) => statuses::status_at(refused.refusal.number(), refused.place),
         Ok(labelled) => {
             buffers::write_adding(answer, labelled.counts, labelled.end);
@@ -254,14 +251,14 @@ pub fn yurdelmiz_add(
     }
 }
 
+#[tactic(auto, unfolding(crate::specs::Calls::read_call, statuses::specs::Call::call_of))]
 pub fn yurdelmiz_read(file: &[u8], size: usize, answer: &mut [u8]) -> u64
     ensures { record { status = result; answer = answer.new } ≡ read_call file.now size answer.old }
 {
     if answer.len() != 24 {
         return BAD_BUFFER as u64;
     }
-    let reading = label_file::read(file, size);
-    match reading {
+    match label_file::read(file, size) {
         Err(refused) => statuses::status_at(refused.refusal.number(), refused.place),
         Ok(contents) => {
             buffers::write_reading(answer, contents);
@@ -270,14 +267,14 @@ pub fn yurdelmiz_read(file: &[u8], size: usize, answer: &mut [u8]) -> u64
     }
 }
 
+#[tactic(auto, using(crate::proofs::Figures::figure_is), unfolding(crate::specs::Calls::dark_test_call, statuses::specs::Call::call_of, buffers::specs::Answers::not_held))]
 pub fn yurdelmiz_dark_test(tail: &[u8], size: u64, answer: &mut [u8]) -> u32
     ensures { record { status = result; answer = answer.new } ≡ dark_test_call tail.now size answer.old }
 {
     if answer.len() != 4 {
         return BAD_BUFFER;
     }
-    let reading = label_file::read_tail(tail, size);
-    match reading {
+    match label_file::read_tail(tail, size) {
         Err(refusal) => refusal.number(),
         Ok(labels) => {
             buffers::write_figure(answer, labels.unwrap_or(NOT_HELD));
@@ -286,6 +283,7 @@ pub fn yurdelmiz_dark_test(tail: &[u8], size: u64, answer: &mut [u8]) -> u32
     }
 }
 
+#[tactic(auto, unfolding(crate::specs::Calls::scale_call, statuses::specs::Call::call_of))]
 pub fn yurdelmiz_scale(figures: &mut [u8], file: &[u8], size: usize) -> u64
     ensures { record { status = result; answer = figures.new } ≡ scale_call figures.old file.now size }
 {
@@ -293,8 +291,7 @@ pub fn yurdelmiz_scale(figures: &mut [u8], file: &[u8], size: usize) -> u64
         return BAD_BUFFER as u64;
     }
     let before = figures_buffer::read_figures(figures);
-    let scaled = scale::add_file(before, file, size);
-    match scaled {
+    match scale::add_file(before, file, size) {
         Err(refused) => statuses::status_at(refused.refusal.number(), refused.place),
         Ok(next) => {
             figures_buffer::write_figures(figures, next);
@@ -303,14 +300,14 @@ pub fn yurdelmiz_scale(figures: &mut [u8], file: &[u8], size: usize) -> u64
     }
 }
 
+#[tactic(auto, using(salvage::proofs::Written::refused_stays), unfolding(crate::specs::Calls::salvage_call, statuses::specs::Call::buffer_call_of))]
 pub fn yurdelmiz_salvage(body: &[u8], output: &mut [u8], answer: &mut [u8]) -> u32
     ensures { record { status = result; buffer = output.new; answer = answer.new } ≡ salvage_call body.now output.old answer.old }
 {
     if answer.len() != 12 {
         return BAD_BUFFER;
     }
-    let salvaged = salvage::keep_labels(body, output);
-    match salvaged {
+    match salvage::keep_labels(body, output) {
         Err(refusal) => refusal.number(),
         Ok(kept) => {
             buffers::write_salvage(answer, kept.labels, kept.dropped);
@@ -319,6 +316,7 @@ pub fn yurdelmiz_salvage(body: &[u8], output: &mut [u8], answer: &mut [u8]) -> u
     }
 }
 
+#[tactic(auto, unfolding(crate::specs::Calls::open_call, statuses::specs::Call::call_of))]
 pub fn yurdelmiz_open(elements: &[u8], day: &mut [u8]) -> u32
     ensures { record { status = result; answer = day.new } ≡ open_call elements.now day.old }
 {
@@ -329,8 +327,7 @@ pub fn yurdelmiz_open(elements: &[u8], day: &mut [u8]) -> u32
         return BAD_BUFFER;
     }
     let step = packets::open_day(elements_buffer::read_elements(elements));
-    let outcome = step.outcome;
-    match outcome {
+    match step.outcome {
         Err(refused) => refused.refusal.number(),
         Ok(()) => {
             let opened = step.day;
@@ -340,6 +337,7 @@ pub fn yurdelmiz_open(elements: &[u8], day: &mut [u8]) -> u32
     }
 }
 
+#[tactic(auto, unfolding(crate::specs::Calls::packet_call, statuses::specs::Call::buffer_call_of))]
 pub fn yurdelmiz_packet(day: &mut [u8], packet: &[u8], output: &mut [u8]) -> u64
     ensures { record { status = result; buffer = output.new; answer = day.new } ≡ packet_call day.old packet.now output.old }
 {
@@ -348,8 +346,7 @@ pub fn yurdelmiz_packet(day: &mut [u8], packet: &[u8], output: &mut [u8]) -> u64
     }
     let before = day_buffer::read_day(day);
     let step = packets::take_packet(before, packet, output);
-    let outcome = step.outcome;
-    match outcome {
+    match step.outcome {
         Err(refused) => statuses::status_at(refused.refusal.number(), refused.place),
         Ok(()) => {
             let next = step.day;
@@ -359,6 +356,7 @@ pub fn yurdelmiz_packet(day: &mut [u8], packet: &[u8], output: &mut [u8]) -> u64
     }
 }
 
+#[tactic(auto, unfolding(crate::specs::Calls::close_call, statuses::specs::Call::buffer_call_of))]
 pub fn yurdelmiz_close(day: &mut [u8], output: &mut [u8]) -> u64
     ensures { record { status = result; buffer = output.new; answer = day.new } ≡ close_call day.old output.old }
 {
@@ -367,8 +365,7 @@ pub fn yurdelmiz_close(day: &mut [u8], output: &mut [u8]) -> u64
     }
     let before = day_buffer::read_day(day);
     let step = packets::close_day(before, output);
-    let outcome = step.outcome;
-    match outcome {
+    match step.outcome {
         Err(refused) => statuses::status_at(refused.refusal.number(), refused.place),
         Ok(()) => {
             let closed = step.day;
