@@ -5,10 +5,13 @@
 ghost use Rattle.std.specs.Prelude.{◌≡◌};
 ghost use Rattle.trig.specs.Contract.{CosineAt};
 ghost use Rattle.trig.specs.ExactSine.{SineAt};
+ghost use Rattle.refusal.specs.Numbers.{number_of};
+ghost use Rattle.statuses.specs.Status.{status_at};
 ghost use Rattle.yurdelmiz.specs.Calls.{kepler_call, sun_call, position_call, shade_call, elements_call, two_line_call, find_set_call, put_set_call, label_call, add_call, read_call, dark_test_call, scale_call, salvage_call, open_call, packet_call, close_call};
 
 use element_sets::Row;
 use position::Position;
+use refusal::RefusedAt;
 use sun::Direction;
 
 // The status of a buffer whose length is not the header's.
@@ -21,6 +24,12 @@ const FORECAST: u32 = 1;
 
 // In place of a figure that a file's trailer does not hold: no file has as many labels.
 const NOT_HELD: u32 = 0xffff_ffff;
+
+fn status_of(refused: RefusedAt) -> u64
+    ensures { result ≡ status_at (number_of refused.refusal) refused.place }
+{
+    statuses::status_at(refused.refusal.number(), refused.place)
+}
 
 pub fn yurdelmiz_sine(angle: u32) -> i64
     ensures { SineAt angle result }
@@ -154,7 +163,7 @@ pub fn yurdelmiz_two_line(
     }
     let reading = two_line::read(first, second, semi_major_axis, node_rate, perigee_rate);
     match reading {
-        Err(misread) => statuses::status_at(misread.refusal.number(), misread.place),
+        Err(misread) => status_of(misread),
         Ok(elements) => {
             elements_buffer::write_elements(answer, 0, elements);
             0
@@ -216,7 +225,7 @@ pub fn yurdelmiz_label(elements: &[u8], telemetry: &[u8], output: &mut [u8]) -> 
         return BAD_BUFFER as u64;
     }
     match labelling::label_day(elements_buffer::read_elements(elements), telemetry, output) {
-        Err(refused) => statuses::status_at(refused.refusal.number(), refused.place),
+        Err(refused) => status_of(refused),
         Ok(_) => 0,
     }
 }
@@ -243,7 +252,7 @@ pub fn yurdelmiz_add(
         size,
         telemetry,
     ) {
-        Err(refused) => statuses::status_at(refused.refusal.number(), refused.place),
+        Err(refused) => status_of(refused),
         Ok(labelled) => {
             buffers::write_adding(answer, labelled.counts, labelled.end);
             0
@@ -259,7 +268,7 @@ pub fn yurdelmiz_read(file: &[u8], size: usize, answer: &mut [u8]) -> u64
         return BAD_BUFFER as u64;
     }
     match label_file::read(file, size) {
-        Err(refused) => statuses::status_at(refused.refusal.number(), refused.place),
+        Err(refused) => status_of(refused),
         Ok(contents) => {
             buffers::write_reading(answer, contents);
             0
@@ -292,7 +301,7 @@ pub fn yurdelmiz_scale(figures: &mut [u8], file: &[u8], size: usize) -> u64
     }
     let before = figures_buffer::read_figures(figures);
     match scale::add_file(before, file, size) {
-        Err(refused) => statuses::status_at(refused.refusal.number(), refused.place),
+        Err(refused) => status_of(refused),
         Ok(next) => {
             figures_buffer::write_figures(figures, next);
             0
@@ -347,7 +356,7 @@ pub fn yurdelmiz_packet(day: &mut [u8], packet: &[u8], output: &mut [u8]) -> u64
     let before = day_buffer::read_day(day);
     let step = packets::take_packet(before, packet, output);
     match step.outcome {
-        Err(refused) => statuses::status_at(refused.refusal.number(), refused.place),
+        Err(refused) => status_of(refused),
         Ok(()) => {
             let next = step.day;
             day_buffer::write_day(day, next);
@@ -366,7 +375,7 @@ pub fn yurdelmiz_close(day: &mut [u8], output: &mut [u8]) -> u64
     let before = day_buffer::read_day(day);
     let step = packets::close_day(before, output);
     match step.outcome {
-        Err(refused) => statuses::status_at(refused.refusal.number(), refused.place),
+        Err(refused) => status_of(refused),
         Ok(()) => {
             let closed = step.day;
             day_buffer::write_day(day, closed);
