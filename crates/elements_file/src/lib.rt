@@ -74,86 +74,90 @@ const START: Progress = Progress {
     },
 };
 
-// The same with another place in the line.
-fn at(s: Progress, place: Place) -> Progress
-    ensures { result ≡ at s place }
-{
-    Progress { place, ..s }
-}
-
-fn next_line(s: Progress) -> Progress
-    requires { s.line ≤ 65_535 }
-    ensures { result ≡ next_line s }
-{
-    Progress {
-        line: s.line + 1,
-        place: Place::Start,
-        ..s
+impl Progress {
+    // The same with another place in the line.
+    fn at(self, place: Place) -> Progress
+        ensures { result ≡ at self place }
+    {
+        Progress { place, ..self }
     }
-}
 
-fn next_element(s: Progress, number: Number) -> Progress
-    requires { Due s number }
-    ensures { result ≡ next_element s number }
-{
-    Progress {
-        line: s.line + 1,
-        element: s.element + 1,
-        place: Place::Start,
-        elements: field::stored(s.elements, s.element, number),
+    fn next_line(self) -> Progress
+        requires { self.line ≤ 65_535 }
+        ensures { result ≡ next_line self }
+    {
+        Progress {
+            line: self.line + 1,
+            place: Place::Start,
+            ..self
+        }
     }
-}
 
-#[tactic(auto, unfolding(crate::specs::Reading::ended))]
-fn ended(s: Progress) -> Progress
-    requires { Consistent 65_534 s }
-    ensures { result ≡ ended s.place s }
-{
-    match s.place {
-        Place::Start | Place::Comment => next_line(s),
-        Place::Named(_) => at(s, Place::Faulty(Fault::Name)),
-        Place::Value(number) => {
-            if number.magnitude.is_some() {
-                next_element(s, number)
-            } else {
-                at(s, Place::Faulty(Fault::NotWhole))
+    fn next_element(self, number: Number) -> Progress
+        requires { Due self number }
+        ensures { result ≡ next_element self number }
+    {
+        Progress {
+            line: self.line + 1,
+            element: self.element + 1,
+            place: Place::Start,
+            elements: field::stored(self.elements, self.element, number),
+        }
+    }
+
+    #[tactic(auto, unfolding(crate::specs::Reading::ended))]
+    fn ended(self) -> Progress
+        requires { Consistent 65_534 self }
+        ensures { result ≡ ended self.place self }
+    {
+        match self.place {
+            Place::Start | Place::Comment => self.next_line(),
+            Place::Named(_) => self.at(Place::Faulty(Fault::Name)),
+            Place::Value(number) => {
+                if number.magnitude.is_some() {
+                    self.next_element(number)
+                } else {
+                    self.at(Place::Faulty(Fault::NotWhole))
+                }
+            }
+            Place::Faulty(_) => self,
+        }
+    }
+
+    #[tactic(auto, unfolding(crate::specs::Reading::step))]
+    fn step(self, byte: u8) -> Progress
+        requires { Consistent 65_534 self }
+        ensures { result ≡ step self byte }
+    {
+        if byte == b'\n' {
+            return self.ended();
+        }
+        self.at(line::within(self.place, self.element, byte))
+    }
+
+    // The fault of a file where it has been read so far.
+    fn malformed_at(self, fault: Fault) -> Malformed
+        ensures { result ≡ malformed_at self.line self.element fault }
+    {
+        Malformed {
+            line: self.line,
+            element: self.element,
+            fault,
+        }
+    }
+
+    #[tactic(auto, unfolding(crate::specs::Reading::concluded))]
+    fn finished(self) -> Result<Elements, Malformed>
+        ensures { result ≡ concluded self.place self }
+    {
+        match self.place {
+            Place::Start if self.element == 12 => Ok(self.elements),
+            Place::Start => Err(self.malformed_at(Fault::Missing)),
+            Place::Faulty(fault) => Err(self.malformed_at(fault)),
+            Place::Comment | Place::Named(_) | Place::Value(_) => {
+                Err(self.malformed_at(Fault::Unended))
             }
         }
-        Place::Faulty(_) => s,
-    }
-}
-
-#[tactic(auto, unfolding(crate::specs::Reading::step))]
-fn step(s: Progress, byte: u8) -> Progress
-    requires { Consistent 65_534 s }
-    ensures { result ≡ step s byte }
-{
-    if byte == b'\n' {
-        return ended(s);
-    }
-    at(s, line::within(s.place, s.element, byte))
-}
-
-// The fault of a file where it has been read so far.
-fn malformed_at(s: Progress, fault: Fault) -> Malformed
-    ensures { result ≡ malformed_at s.line s.element fault }
-{
-    Malformed {
-        line: s.line,
-        element: s.element,
-        fault,
-    }
-}
-
-#[tactic(auto, unfolding(crate::specs::Reading::concluded))]
-fn finished(s: Progress) -> Result<Elements, Malformed>
-    ensures { result ≡ concluded s.place s }
-{
-    match s.place {
-        Place::Start if s.element == 12 => Ok(s.elements),
-        Place::Start => Err(malformed_at(s, Fault::Missing)),
-        Place::Faulty(fault) => Err(malformed_at(s, fault)),
-        Place::Comment | Place::Named(_) | Place::Value(_) => Err(malformed_at(s, Fault::Unended)),
     }
 }
 
@@ -171,7 +175,7 @@ pub fn parse(text: &[u8]) -> Result<Elements, Malformed>
     }
     let mut s = START;
     for byte in text {
-        s = step(s, *byte);
+        s = s.step(*byte);
     }
-    finished(s)
+    s.finished()
 }

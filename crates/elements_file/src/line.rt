@@ -65,7 +65,7 @@ fn valued(element: u32, number: Number, byte: u8) -> Place
     ensures { result ≡ valued element number byte }
 {
     if digit::is_digit(byte) {
-        return counted(element, number, u64::from(byte - b'0'));
+        return counted(element, number, digit::value(byte));
     }
     if byte == b'-' {
         if number.takes_minus(element) {

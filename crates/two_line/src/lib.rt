@@ -24,11 +24,13 @@ fn bad_from(ahead: u32, line: &[u8], fields: &[Field], later: u32) -> u32
     requires { ahead ≤ 69 }
     ensures { result ≡ bad_from ahead line.now fields.now later }
 {
-    let mut place = later;
-    for field in fields.iter().rev() {
-        place = two_line_fields::place_or(ahead, line, *field, place);
+    for field in fields {
+        let place = two_line_fields::place_or(ahead, line, *field, 0);
+        if place != 0 {
+            return place;
+        }
     }
-    place
+    later
 }
 
 fn same_satellite(first: &[u8], second: &[u8]) -> bool

@@ -19,13 +19,9 @@ fn weight(byte: u8) -> u64
 }
 
 // Whether column 69 has the checksum of those ahead of it.
-#[tactic(auto, using(crate::proofs::Checksums::weight_small, crate::proofs::Checksums::weight_to_small), unfolding(crate::specs::Lines::checksum_holds))]
 pub(crate) fn checksum_holds(line: &[u8]) -> bool
     ensures { result ≡ checksum_holds line.now }
 {
-    let mut sum = 0;
-    for column in 1..=68 {
-        sum += weight(two_line_fields::byte(line, column));
-    }
+    let sum: u64 = line.iter().take(68).map(|byte| weight(*byte)).sum();
     u64::from(two_line_fields::byte(line, 69)) == 48 + sum % 10
 }
