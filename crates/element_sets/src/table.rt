@@ -24,39 +24,51 @@ pub(crate) fn row<'a>(table: &'a [u8], k: usize) -> &'a [u8]
     &table[at..at + SIZE]
 }
 
-// The set of a row that the table has.
-#[tactic(auto, unfolding(crate::specs::Table::set_at, crate::specs::Table::row_at))]
-fn set_at(table: &[u8], k: usize) -> Elements
-    requires { row_size * k + row_size ≤ length table.now }
-    ensures { result ≡ set_at table.now k }
-{
-    elements_buffer::read_elements(row(table, k))
+// A row that the table has.
+#[derive(Clone, Copy)]
+struct TableRow<'a> {
+    table: &'a [u8],
+    k: usize,
+    ghost within: { row_size * k + row_size ≤ length table.now },
 }
 
-#[tactic(auto, using(crate::proofs::Tables::epoch_first))]
-fn epoch_at(table: &[u8], k: usize) -> i64
-    requires { row_size * k + row_size ≤ length table.now }
-    ensures { result ≡ epoch_at table.now k }
-{
-    i64::read(table, SIZE * k)
-}
+impl TableRow<'_> {
+    #[tactic(auto, unfolding(crate::specs::Table::set_at, crate::specs::Table::row_at))]
+    fn set(self) -> Elements
+        ensures { result ≡ set_at self.entry.table.now self.entry.k }
+    {
+        elements_buffer::read_elements(row(self.table, self.k))
+    }
 
-// Whether the epoch of row k, which the table has, is after that of the row before.
-#[tactic(auto, unfolding(crate::specs::Table::follows))]
-fn follows(table: &[u8], k: usize) -> bool
-    requires { row_size * k + row_size ≤ length table.now }
-    ensures { result ≡ follows table.now k }
-{
-    k == 0 || epoch_at(table, k - 1) < epoch_at(table, k)
-}
+    #[tactic(auto, using(crate::proofs::Tables::epoch_first))]
+    fn epoch(self) -> i64
+        ensures { result ≡ epoch_at self.entry.table.now self.entry.k }
+    {
+        i64::read(self.table, SIZE * self.k)
+    }
 
-// Whether row k, which the table has, keeps the rules of a table.
-#[tactic(auto, unfolding(crate::specs::Table::keeps_at))]
-fn keeps(table: &[u8], k: usize) -> bool
-    requires { row_size * k + row_size ≤ length table.now }
-    ensures { result ≡ keeps_at table.now k }
-{
-    elements::check(set_at(table, k)).is_ok() && follows(table, k)
+    // Whether its epoch is after that of the row before.
+    #[tactic(auto, unfolding(crate::specs::Table::follows))]
+    fn follows(self) -> bool
+        ensures { result ≡ follows self.entry.table.now self.entry.k }
+    {
+        if self.k == 0 {
+            return true;
+        }
+        let before = TableRow {
+            table: self.table,
+            k: self.k - 1,
+        };
+        before.epoch() < self.epoch()
+    }
+
+    // Whether it keeps the rules of a table.
+    #[tactic(auto, unfolding(crate::specs::Table::keeps_at))]
+    fn keeps(self) -> bool
+        ensures { result ≡ keeps_at self.entry.table.now self.entry.k }
+    {
+        elements::check(self.set()).is_ok() && self.follows()
+    }
 }
 
 #[tactic(auto, using(crate::proofs::Scans::scan_broken), unfolding(sequence::specs::Sequence::leading))]
@@ -67,11 +79,12 @@ fn scan_rows(table: &[u8], time: i64) -> Option<Split>
     let mut earlier = 0;
     let mut up_to = 0;
     for k in 0..table.len() / SIZE {
-        if !keeps(table, k) {
+        let row = TableRow { table, k };
+        if !row.keeps() {
             return None;
         }
         // The epochs rise, so all rows ahead of such a row count too.
-        let epoch = epoch_at(table, k);
+        let epoch = row.epoch();
         if epoch < time {
             earlier = k + 1;
         }

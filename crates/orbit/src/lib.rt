@@ -7,9 +7,10 @@ mod turns;
 ghost use Rattle.std.specs.Prelude.{◌≡◌, ◌≤◌};
 ghost use Rattle.trig.specs.Sines.{SinesAt};
 ghost use Rattle.orbit.specs.Placement.{node_at};
-ghost use Rattle.orbit.specs.Contract.{PlaneFor, Shape, InPlane, StateAt, PlacedAt};
+ghost use Rattle.orbit.specs.Contract.{PlaneFor, StateAt, PlacedAt};
 
 use elements::{Elements, ElementsAt};
+use ellipse::Ellipse;
 use kepler::Anomaly;
 use position::Position;
 use refusal::Refusal;
@@ -55,36 +56,27 @@ pub fn node_at(at: ElementsAt) -> Sines
     turns::drift_at(at, at.elements.node, at.elements.node_rate)
 }
 
-fn in_plane(a: u32, e: u32, minor_axis: u32, cosine: i64, sine: i64) -> Position
-    requires { Shape a e minor_axis cosine sine }
-    ensures { InPlane a e minor_axis cosine sine result }
-{
-    Position {
-        x: ellipse::plane_x(a, e, cosine),
-        y: ellipse::plane_y(a, minor_axis, sine),
-        z: 0,
-    }
-}
-
 // The state at a time: the plane is computed once for all times, and the node once for the time.
 pub fn state_at(at: ElementsAt, plane: Plane, node: Sines) -> State
     requires { PlaneFor at.elements plane × (node.angle ≡ node_at at.elements at.time) }
     ensures { StateAt at.elements at.time result }
 {
-    let a = at.elements.semi_major_axis;
-    let e = at.elements.eccentricity;
+    let ellipse = Ellipse {
+        semi_major_axis: at.elements.semi_major_axis,
+        eccentricity: at.elements.eccentricity,
+        minor_axis: plane.minor_axis,
+    };
     let phase = turns::phase_at(at);
     let perigee = Sines::of(phase.argument_of_perigee);
-    let anomaly = kepler::eccentric_anomaly(e, phase.mean_anomaly);
+    let anomaly = kepler::eccentric_anomaly(ellipse.eccentricity, phase.mean_anomaly);
     let sines = Sines::of(anomaly.angle);
-    let cosine = sines.cosine;
-    let in_plane = in_plane(a, e, plane.minor_axis, cosine, sines.sine);
+    let in_plane = ellipse.in_plane(sines.cosine, sines.sine);
     State {
         revolution: phase.revolution,
         mean_anomaly: phase.mean_anomaly,
         anomaly,
         position: in_plane.celestial(perigee, plane.inclination, node),
-        radius: ellipse::radius(a, e, cosine),
+        radius: ellipse.radius(sines.cosine),
         node: node.angle,
     }
 }

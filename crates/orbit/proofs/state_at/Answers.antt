@@ -23,6 +23,13 @@ use Rattle.orbit.proofs.state_at.Goals.{After-celestial, After-eccentric_anomaly
 elements_accepted : (s : Start) → Accepted s.args.at.elements
 elements_accepted s = (accepted_at s.args.at.elements s.args.at.time s.args.at.passed).elements
 
+-- ---- the ellipse
+pub invariant_of-ellipse : goal.invariant_of-ellipse
+invariant_of-ellipse c =
+    let a = elements_accepted (goal.at.invariant_of-ellipse c).Start in
+    let m = minor_le c.args.at.elements.eccentricity in
+    search (rules, a, m, c.requires.0)
+
 -- ---- the mean anomaly and the revolution
 revolution_fits : (c : After-phase_at-phase) → SFits w32 c.phase_at-phase.result.revolution
 revolution_fits c = search rules
@@ -52,20 +59,13 @@ sine_is {r = r} h = sine_read r ∙ ap S h.angle_is
 -- ---- the position and the radius
 pub in_plane-in_plane-requires : goal.in_plane-in_plane-requires
 in_plane-in_plane-requires c =
-    let a = elements_accepted (goal.at.in_plane-in_plane-requires c).Start in
-    let m = minor_le c.args.at.elements.eccentricity in
     let E = c.of-sines.ensures.sines_of in
-    search (rules, a, m, E, c.requires.0)
+    search (rules, E)
 
 pub celestial-requires : goal.celestial-requires
 celestial-requires c =
     let p = c.requires in
     search (rules, c.in_plane-in_plane.ensures, c.of-perigee.ensures, p.0, p.1)
-
-pub radius-requires : goal.radius-requires
-radius-requires c =
-    let a = elements_accepted (goal.at.radius-requires c).Start in
-    search rules
 
 position_is : (c : After-celestial) → let a = c.args.at in c.celestial.result ≡ celestial_at a.elements a.time (anomaly_of a.elements (mean_anomaly a.elements a.time)).angle
 unfolding celestial_at in_plane

@@ -14,7 +14,7 @@ loop-k-preserved c =
     let l = c.loop-k in
     let a = c.args in
     let keeps = below_more _ _ l.invariant.0 (sym c.keeps.ensures ∙ c.if-not-keeps.false) in
-    let epoch = to_z-of_z {w = w64} (record { sfits = c.epoch_at-epoch.type_inv }) ∙ c.epoch_at-epoch.ensures in (
+    let epoch = to_z-of_z {w = w64} (record { sfits = c.epoch-epoch.type_inv }) ∙ c.epoch-epoch.ensures in (
       keeps,
       elim c.if-epoch-time.branch [
         | then-epoch-time w ↦ w.earlier-is ∙ sym (all_before a.table.now _ l.k keeps (rw epoch at w.if-epoch-time.true))
