@@ -1,1 +1,2 @@
+pub mod StoredDays
 pub mod DaysBack

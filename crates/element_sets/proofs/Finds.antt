@@ -1,5 +1,5 @@
 -- What finding answers, case by case. Assumes nothing.
-use mathlib.Core.Path.{◌≡◌, refl, subst}
+use mathlib.Core.Path.{◌≡◌, refl, sym, ◌∙◌, subst}
 use Prim.Native.Nat.{ℕ, ◌+◌, ◌*◌, ◌-◌, ◌≤◌, ◌<◌}
 use native.Mathlib.Omega.{arith}
 use mathlib.Core.Bool.{Bool, true, false, cond, ◌&&◌}
@@ -8,19 +8,34 @@ use lib.Dec.{ltb}
 use lib.IntN.{ℤ}
 use lib.ListN.{length, take}
 use lib.Seq.{length-take-le}
-use borrow.Author.Tests.{ltb-true, ltb-false}
+use borrow.Author.Tests.{lt-ltb, le-ltb, ltb-true, ltb-false, le-leb}
 use Rattle.refusal.specs.declared.Refusal.TheVariants.{Table, NoSet}
-use Rattle.element_sets.specs.Table.{row_size, rows_in, is_table_in, up_to}
-use Rattle.element_sets.specs.Finding.{finding}
-use Rattle.element_sets.proofs.Sound.{in_buffer, few}
+use Rattle.element_sets.specs.Table.{row_size, rows_in, is_table_in, up_to, scanned, split_at}
+use Rattle.element_sets.specs.Finding.{found_among, finding}
+use Rattle.element_sets.proofs.Sound.{told, in_buffer, few}
 use Rattle.element_sets.specs.declared.lookup.Row.TheVariants.{Past, Forecast}
 use Rattle.element_sets.specs.declared.lookup.Row.{Row}
 use Rattle.refusal.specs.declared.Refusal.{Refusal}
-use Rattle.std.specs.Prelude.{Err, Ok, Result}
+use Rattle.std.specs.Prelude.{Err, Ok, Result, Some}
 
 module _ (past : List ℕ) (past_size : ℕ) (forecast : List ℕ) (forecast_size : ℕ) (time : ℤ) where
   abbrev answer : Result Row Refusal
   answer = finding past past_size forecast forecast_size time
+
+  sound : (buffer : List ℕ) (size : ℕ) {earlier later : ℕ} → scanned buffer size time ≡ Some (split_at earlier later) → is_table_in buffer size ≡ true
+  unfolding is_table_in
+  sound buffer size {earlier} {later} e = let t = told buffer size time earlier later e in rw (le-leb size (length buffer) t.held, t.table)
+
+  module _ {a b c d : ℕ} (e : scanned past past_size time ≡ Some (split_at a b)) (f : scanned forecast forecast_size time ≡ Some (split_at c d)) where
+    both_sound : answer ≡ found_among b (rows_in forecast_size)
+    unfolding finding
+    both_sound = rw (sound past past_size e, sound forecast forecast_size f, (told past past_size time a b e).later_is)
+
+    pub in_past : 0 < b → Ok (Past (b - 1)) ≡ answer
+    in_past h = sym (both_sound ∙ rw (lt-ltb 0 b h))
+
+    pub in_forecast : b ≤ 0 → row_size ≤ forecast_size → Ok (Forecast 0) ≡ answer
+    in_forecast h k = sym (both_sound ∙ rw (le-ltb 0 b h, lt-ltb 0 (rows_in forecast_size) (omega arith)))
 
   -- ---- what an answer tells
 

@@ -20,6 +20,10 @@ use Rattle.element_sets.proofs.Sound.{told, told_one, told_rows}
 use Rattle.element_sets.specs.declared.table.Split.{Split}
 use Rattle.std.specs.Prelude.{Err, None, Ok, Option, Result, Some}
 
+pub put_refused : (el : Elements) (buffer : List ℕ) (size : ℕ) {r : Refusal} → checked el ≡ Err r → Err r ≡ putting el buffer size
+unfolding putting
+put_refused el buffer size e = rw e
+
 module _ (el : Elements) (buffer : List ℕ) (size : ℕ) {split : Split} (e : scanned buffer size el.epoch ≡ Some split) where
   pub put_placed : checked el ≡ Ok tt → end_with split.earlier split.up_to size ≤ length buffer → Ok (end_with split.earlier split.up_to size) ≡ putting el buffer size
   unfolding putting

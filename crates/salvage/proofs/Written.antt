@@ -7,6 +7,7 @@ use mathlib.Core.List.{List, [], ◌++◌}
 use lib.ListN.{length, take, drop, length-append, length-drop}
 use lib.Seq.{sets, sets-eq, take_at, drop-drop, drop_at, length-take-le}
 use borrow.Author.Tests.{le-ltb, lt-ltb, ltb-false}
+use Rattle.endian.proofs.Slices.{start_part}
 use Rattle.refusal.specs.declared.Refusal.{Refusal}
 use Rattle.refusal.specs.declared.Refusal.TheVariants.{OutputLength}
 use Rattle.label.specs.Layout.{label_size}
@@ -27,6 +28,13 @@ use Rattle.salvage.specs.Salvage.{whole_labels, kept_labels, kept_bytes, kept_co
 use Rattle.salvage.specs.Contract.{Saves, Salvaged}
 use Rattle.salvage.specs.declared.Kept.{Kept}
 use Rattle.std.specs.Prelude.{Err, Ok, Result}
+
+-- the start of some bytes, copied over another start
+pub start_copied : (body output : List ℕ) (size : ℕ) {m : List ℕ} → m ≡ take (size - 0) (drop 0 body)
+    → m ++ drop (size - 0) (drop 0 output) ≡ take size body ++ drop size output
+start_copied body output size e =
+    let zero : size - 0 ≡ size = omega arith in
+    (λ i. (e ∙ start_part body size) i ++ drop (zero i) output)
 
 module _ (body : List ℕ) where
   abbrev n : ℕ

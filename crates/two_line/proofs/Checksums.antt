@@ -2,7 +2,7 @@
 use mathlib.Core.Path.{◌≡◌, refl, sym, ◌∙◌}
 use mathlib.Core.Bool.{Bool, true, false, cond}
 use mathlib.Core.List.{List}
-use Prim.Native.Nat.{ℕ, zero, suc, ◌+◌, ◌-◌, ◌≤◌}
+use Prim.Native.Nat.{ℕ, zero, suc, ◌+◌, ◌*◌, ◌-◌, ◌≤◌}
 use native.Mathlib.Decide.{dec_le}
 use native.Mathlib.Nat.{lt_of_not-le}
 use native.Mathlib.Numerals.{add-one}
@@ -14,6 +14,7 @@ use Rattle.std.specs.List.{sum_by}
 use Rattle.std.proofs.lemmas.List.Sums.{sum_by_more}
 use Rattle.digit.specs.Digit.{digit_value}
 use Rattle.digit.proofs.Range.{digit_small}
+use Rattle.two_line_fields.specs.Decimals.{byte_of}
 use Rattle.two_line.specs.Lines.{weight, weight_to}
 
 pub weight_small : (byte : ℕ) → weight byte ≤ 9
@@ -22,6 +23,10 @@ weight_small byte = either (eqb byte 45)
     either : (t : Bool) → cond t 1 (digit_value byte) ≤ 9
     either true = omega arith
     either false = digit_small byte
+
+pub weight_to_small : (line : List ℕ) (n : ℕ) → weight_to line n ≤ 9 * n
+weight_to_small line zero = omega arith
+weight_to_small line (suc n) = omega (arith, weight_to_small line n, weight_small (byte_of line (suc n)))
 
 -- columns past the line's end count nothing
 pub weights_summed : (line : List ℕ) (n : ℕ) → sum_by weight (take n line) ≡ weight_to line n

@@ -1,5 +1,8 @@
 pub mod Placed
+pub mod Days
 pub mod Additions
+pub mod Salvages
+pub mod DaySteps
 pub mod AcceptedCalls
 pub mod TailCalls
 pub mod CutDays

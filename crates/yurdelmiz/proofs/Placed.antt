@@ -4,8 +4,11 @@ use mathlib.Core.Bool.{true}
 use Prim.Native.Nat.{ℕ, ◌+◌, ◌*◌, ◌^◌, ◌≤◌, ◌<◌}
 use native.Mathlib.Nat.{mul-le-mul}
 use native.Mathlib.Omega.{arith}
-use lib.Dec.{leb→le}
+use lib.Dec.{leb→le, lit≤}
 use lib.IntN.{ℤ, pos, negsuc, nat_abs}
+use Rattle.integer.proofs.Bounds.{within_more}
+use Rattle.position.specs.Box.{Turnable, CelestialBox}
+use Rattle.position.specs.declared.Position.{Position}
 use Rattle.time.specs.Range.{in_range}
 use Rattle.orbit.specs.declared.State.{State}
 use Rattle.elements.specs.declared.Elements.{Elements}
@@ -31,3 +34,8 @@ module _ (el : Elements) (t : ℤ) (s : State) (given : placement el t ≡ Ok s)
   radius_small h =
       let a = (accepted_at el t (placed_passed el t given)).elements in
       below _ _ s.radius a.axis_le a.eccentricity_le h
+
+-- the bounds of a celestial position let it be turned
+pub turnable : {p : Position} → CelestialBox p → Turnable p
+turnable h =
+    record { x_within = within_more h.x_within (lit≤ tt); y_within = within_more h.y_within (lit≤ tt); z_within = within_more h.z_within (lit≤ tt) }
