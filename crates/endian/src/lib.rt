@@ -80,7 +80,7 @@ impl LittleEndian for i32 {
     }
 
     fn write(self, out: &mut [u8], at: usize) {
-        self.cast_unsigned().write(out, at);
+        u32::write(self.cast_unsigned(), out, at);
     }
 }
 
@@ -121,7 +121,7 @@ impl LittleEndian for i64 {
     }
 
     fn write(self, out: &mut [u8], at: usize) {
-        self.cast_unsigned().write(out, at);
+        u64::write(self.cast_unsigned(), out, at);
     }
 }
 
