@@ -8,7 +8,7 @@ use lib.Seq.{sets, sets-eq, length-take-le}
 use Rattle.std.proofs.lemmas.List.{drop-take}
 use Rattle.std.specs.List.{copy_within}
 use Rattle.endian.specs.LittleEndian.{bytes4, bytes8, words}
-use Rattle.endian.proofs.Stores.{sets_append, sets_ahead, sets_own}
+use Rattle.endian.proofs.Stores.{sets_append, sets_ahead}
 use Rattle.elements.specs.declared.Elements.{Elements}
 use Rattle.elements_buffer.specs.Buffer.{elements_bytes}
 use Rattle.element_sets.specs.Table.{row_size}
@@ -22,10 +22,6 @@ moved_up l from size to h k room =
     let rows : drop from (take size l) ≡ take n (drop from l) = ap (λ (j : ℕ). drop from (take j l)) (sym on) ∙ drop-take from n l in
     let many : length (drop from (take size l)) ≡ n = omega (arith, length-drop from (take size l), length-take-le size l k) in
     sym (sets-eq (drop from (take size l)) l to (omega (arith, many)) ∙ (λ i. take to l ++ rows i ++ drop (to + many i) l))
-
--- rows that stand where they are to go
-pub unmoved : (l : List ℕ) (from size : ℕ) → from ≤ size → size ≤ length l → l ≡ sets l from (drop from (take size l))
-unmoved l from size h k = sym (sets_own l from size h k)
 
 pub elements_length : (el : Elements) → length (elements_bytes el) ≡ row_size
 unfolding elements_bytes words bytes8 bytes4

@@ -14,7 +14,7 @@ use refusal::Refusal;
 
 // Moves the bytes from `from` up to `size` to `to`. Where they are there already, as behind a row that is written over,
 // nothing is touched.
-#[tactic(auto, using(crate::proofs::Moves::moved_up, crate::proofs::Moves::unmoved))]
+#[tactic(auto, using(crate::proofs::Moves::moved_up, endian::proofs::Stores::sets_own))]
 fn move_rows(buffer: &mut [u8], from: usize, size: usize, to: usize)
     requires { (from ≤ size) × (size ≤ length buffer.old) × (to + (size - from) ≤ length buffer.old) }
     ensures { buffer.new ≡ sets buffer.old to (drop from (take size buffer.old)) }
